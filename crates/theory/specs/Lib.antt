@@ -1,2 +1,17 @@
 pub mod Rules
 pub mod Program
+pub mod Table
+pub mod Basics
+pub mod Ways
+pub mod Graph
+pub mod Meaning
+pub mod Choice
+pub mod Sound
+pub mod Keep
+pub mod Exist
+pub mod Lift
+pub mod Demand
+pub mod Start
+pub mod Solve
+pub mod Pool
+pub mod Claims

@@ -186,7 +186,7 @@ module _ {X Er : Type 0} where
   goOn r k = elim (r .0) [ none ↦ (none, r .1) | some a ↦ k a (r .1) ]
 
   react-bind : {A B : Type 0} (p : ℕ) (o : Out) (f : Out → Er) (k : Bool → St X Er → Option A × St X Er) (g : A → St X Er → Option B × St X Er) (h : Bool → St X Er → Option B × St X Er) (s : St X Er)
-    → ((c : Bool) (s′ : St X Er) → h c s′ ≡ goOn (k c s′) g) → react p o f h s ≡ goOn (react p o f k s) g
+      → ((c : Bool) (s′ : St X Er) → h c s′ ≡ goOn (k c s′) g) → react p o f h s ≡ goOn (react p o f k s) g
   react-bind p success f k g h s e = e true s
   react-bind p mismatch f k g h s e = e false (emitted (f mismatch) s)
   react-bind p kindOrder f k g h s e = e false (emitted (f kindOrder) s)

@@ -36,22 +36,31 @@ pub data Kind : Type 0 where
 -- the places of the heads in `TyKind`, from 0
 abbrev pub instance-head : ℕ
 instance-head = 5
+
 abbrev pub param-head : ℕ
 param-head = 6
+
 abbrev pub fn-def-head : ℕ
 fn-def-head = 7
+
 abbrev pub array-head : ℕ
 array-head = 8
+
 abbrev pub nil-head : ℕ
 nil-head = 9
+
 abbrev pub error-head : ℕ
 error-head = 10
+
 abbrev pub diverges-head : ℕ
 diverges-head = 11
+
 abbrev pub infer-head : ℕ
 infer-head = 12
+
 abbrev pub lambda-head : ℕ
 lambda-head = 13
+
 abbrev pub ref-head : ℕ
 ref-head = 14
 

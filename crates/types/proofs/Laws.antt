@@ -60,10 +60,22 @@ width-other a e = simp (ne-eqb a 0 (e .0 .0 .1), ne-eqb a 1 (e .0 .1), ne-eqb a 
 pub decode-other : (h a : ℕ) (o : TypeId) (i : InputRange) → ((((((((((((((Unit {0} × (h ≡ 0 → ⊥)) × (h ≡ 1 → ⊥)) × (h ≡ 2 → ⊥)) × (h ≡ 3 → ⊥)) × (h ≡ 4 → ⊥)) × (h ≡ 5 → ⊥)) × (h ≡ 6 → ⊥)) × (h ≡ 7 → ⊥)) × (h ≡ 8 → ⊥)) × (h ≡ 10 → ⊥)) × (h ≡ 11 → ⊥)) × (h ≡ 12 → ⊥)) × (h ≡ 13 → ⊥)) × (h ≡ 14 → ⊥)) → Nil ≡ viewOf h a o i
 unfolding viewOf
 decode-other h a o i e =
-    simp
-    ( ne-eqb h 0 (e .0 .0 .0 .0 .0 .0 .0 .0 .0 .0 .0 .0 .0 .1), ne-eqb h 1 (e .0 .0 .0 .0 .0 .0 .0 .0 .0 .0 .0 .0 .1), ne-eqb h 2 (e .0 .0 .0 .0 .0 .0 .0 .0 .0 .0 .0 .1)
-    , ne-eqb h 3 (e .0 .0 .0 .0 .0 .0 .0 .0 .0 .0 .1), ne-eqb h 4 (e .0 .0 .0 .0 .0 .0 .0 .0 .0 .1), ne-eqb h 5 (e .0 .0 .0 .0 .0 .0 .0 .0 .1), ne-eqb h 6 (e .0 .0 .0 .0 .0 .0 .0 .1)
-    , ne-eqb h 7 (e .0 .0 .0 .0 .0 .0 .1), ne-eqb h 8 (e .0 .0 .0 .0 .0 .1), ne-eqb h 10 (e .0 .0 .0 .0 .1), ne-eqb h 11 (e .0 .0 .0 .1), ne-eqb h 12 (e .0 .0 .1), ne-eqb h 13 (e .0 .1), ne-eqb h 14 (e .1))
+    simp (
+      ne-eqb h 0 (e .0 .0 .0 .0 .0 .0 .0 .0 .0 .0 .0 .0 .0 .1),
+      ne-eqb h 1 (e .0 .0 .0 .0 .0 .0 .0 .0 .0 .0 .0 .0 .1),
+      ne-eqb h 2 (e .0 .0 .0 .0 .0 .0 .0 .0 .0 .0 .0 .1),
+      ne-eqb h 3 (e .0 .0 .0 .0 .0 .0 .0 .0 .0 .0 .1),
+      ne-eqb h 4 (e .0 .0 .0 .0 .0 .0 .0 .0 .0 .1),
+      ne-eqb h 5 (e .0 .0 .0 .0 .0 .0 .0 .0 .1),
+      ne-eqb h 6 (e .0 .0 .0 .0 .0 .0 .0 .1),
+      ne-eqb h 7 (e .0 .0 .0 .0 .0 .0 .1),
+      ne-eqb h 8 (e .0 .0 .0 .0 .0 .1),
+      ne-eqb h 10 (e .0 .0 .0 .0 .1),
+      ne-eqb h 11 (e .0 .0 .0 .1),
+      ne-eqb h 12 (e .0 .0 .1),
+      ne-eqb h 13 (e .0 .1),
+      ne-eqb h 14 (e .1),
+    )
 
 pub view-row : (m : List ℕ) (c : Counts) (x : TypeId) (h a : ℕ) (o : TypeId) (i : InputRange) (r : Row) → h ≡ headAt m (c .types) (x .0) → a ≡ numberAt m (c .types) (x .0) → o .0 ≡ outputAt m (c .types) (x .0)
     → (i .first ≡ firstAt m (c .types) (x .0)) × (i .count ≡ countAt m (c .types) (x .0)) → r ≡ viewOf h a o i → r ≡ viewIn m c x
@@ -185,7 +197,7 @@ module _ (m : List ℕ) (c : Counts) where
   draw-no-row k o h l = rw (lt-leb 1024 (c .vars) h, le-leb 4622 (c .types) l)
 
   pub draw-new : (k : Kind) (o : Origin) (a b : ℕ) (u w : List ℕ) → c .vars < 1024 → c .types < 4622 → a ≡ kindNumber k → b ≡ originNumber o → u ≡ varWritten m (c .vars) a b → w ≡ rowWritten u (c .types) 12 (c .vars) 0 0 0
-    → making (counts (c .types + 1) (c .vars + 1) (c .inputs)) (c .types) w ≡ drawIn m c k o
+      → making (counts (c .types + 1) (c .vars + 1) (c .inputs)) (c .types) w ≡ drawIn m c k o
   unfolding drawIn
   draw-new k o a b u w h l p q r s = rw (lt-leb 1024 (c .vars) h, lt-leb 4622 (c .types) l, ← p, ← q, ← r, ← s)
 

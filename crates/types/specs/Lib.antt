@@ -1,3 +1,9 @@
 pub mod Memory
 pub mod View
 pub mod Made
+pub mod Tables
+pub mod Sound
+pub mod Pool
+pub mod Frames
+pub mod Grow
+pub mod Keeps

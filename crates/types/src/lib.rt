@@ -18,10 +18,15 @@ pub const MOST_INPUTS: u16 = 9216;
 
 // Where the regions begin: variables and rows of five cells, inputs of one, and the pool's four indices.
 const ROWS_AT: usize = 5120;
+
 const INPUTS_AT: usize = 28230;
+
 const ARRAYS_AT: usize = 37446;
+
 const REFS_AT: usize = 42068;
+
 const DEFS_AT: usize = 46690;
+
 const INSTANCES_AT: usize = 46946;
 // How many cells this crate needs; a lent memory may be longer, and what lies behind stays as it is.
 pub const MEMORY: usize = 47010;
@@ -370,16 +375,29 @@ pub fn draw(m: &mut [u16], c: Counts, k: Kind, o: Origin) -> Made
     let t = c.types;
     let i = c.inputs;
     if 1024 <= v {
-        return Made { counts: c, ty: TypeId(0) };
+        return Made {
+            counts: c,
+            ty: TypeId(0),
+        };
     }
     if 4622 <= t {
-        return Made { counts: c, ty: TypeId(0) };
+        return Made {
+            counts: c,
+            ty: TypeId(0),
+        };
     }
     let a = kind_number(k);
     let b = origin_number(o);
     write_var(m, v, a, b);
     write_row(m, t, 12, v, 0, InputRange { first: 0, count: 0 });
-    Made { counts: Counts { types: t + 1, vars: v + 1, inputs: i }, ty: TypeId(t) }
+    Made {
+        counts: Counts {
+            types: t + 1,
+            vars: v + 1,
+            inputs: i,
+        },
+        ty: TypeId(t),
+    }
 }
 
 // Where the pool has the first row of a head and a number; 0 where it has none.
@@ -423,10 +441,20 @@ fn append(m: &mut [u16], c: Counts, h: u16, a: u16, o: u16, r: InputRange) -> Ma
     let v = c.vars;
     let i = c.inputs;
     if 4622 <= t {
-        return Made { counts: c, ty: TypeId(0) };
+        return Made {
+            counts: c,
+            ty: TypeId(0),
+        };
     }
     write_row(m, t, h, a, o, r);
-    Made { counts: Counts { types: t + 1, vars: v, inputs: i }, ty: TypeId(t) }
+    Made {
+        counts: Counts {
+            types: t + 1,
+            vars: v,
+            inputs: i,
+        },
+        ty: TypeId(t),
+    }
 }
 
 // A new row that the pool shall have in the cell p.
@@ -435,7 +463,10 @@ fn enter(m: &mut [u16], c: Counts, p: usize, h: u16, a: u16) -> Made
 {
     let t = c.types;
     if 4622 <= t {
-        return Made { counts: c, ty: TypeId(0) };
+        return Made {
+            counts: c,
+            ty: TypeId(0),
+        };
     }
     write(m, p, t + 1);
     append(m, c, h, a, 0, InputRange { first: 0, count: 0 })
@@ -447,13 +478,19 @@ fn intern(m: &mut [u16], c: Counts, h: u16, a: u16) -> Made
 {
     let p = pool_cell(h, a);
     if p == 0 {
-        return Made { counts: c, ty: TypeId(0) };
+        return Made {
+            counts: c,
+            ty: TypeId(0),
+        };
     }
     let x = read(m, p);
     if x == 0 {
         return enter(m, c, p, h, a);
     }
-    Made { counts: c, ty: TypeId(x - 1) }
+    Made {
+        counts: c,
+        ty: TypeId(x - 1),
+    }
 }
 
 // The type of a head that is made of the row e; for what is no row the answer is row 0.
@@ -465,7 +502,10 @@ fn intern_of(m: &mut [u16], c: Counts, h: u16, e: TypeId) -> Made
     if a < n {
         return intern(m, c, h, a);
     }
-    Made { counts: c, ty: TypeId(0) }
+    Made {
+        counts: c,
+        ty: TypeId(0),
+    }
 }
 
 // The type array of e.
@@ -510,7 +550,11 @@ pub fn push_input(m: &mut [u16], c: Counts, x: TypeId) -> Counts
         return c;
     }
     write(m, INPUTS_AT + i as usize, a);
-    Counts { types: t, vars: v, inputs: i + 1 }
+    Counts {
+        types: t,
+        vars: v,
+        inputs: i + 1,
+    }
 }
 
 // The type of the lambda of a node, with the inputs that stand at r.
@@ -547,7 +591,11 @@ pub fn start(m: &mut [u16]) -> Counts
         write_row(m, x, h, a, 0, InputRange { first: 0, count: 0 });
         x += 1;
     }
-    Counts { types: 14, vars: 0, inputs: 0 }
+    Counts {
+        types: 14,
+        vars: 0,
+        inputs: 0,
+    }
 }
 
 // The end of a row's bindings (`ty_var_ty`), followed variable by variable; row 12 (err) where there is none.

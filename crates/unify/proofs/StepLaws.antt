@@ -1,0 +1,313 @@
+-- One step: what each return of settle, chase, heed, meet, variable and step shows.
+use mathlib.Core.Path.{_≡_, refl, sym, ap, _∙_}
+use mathlib.Core.Logic.{_≢_, _⊎_, inl, inr}
+use mathlib.Core.List.{List, [], _∷_}
+use mathlib.Core.Option.{Option, none, some}
+use mathlib.Core.Bool.{Bool, true, false, not, _&&_, _||_, cond}
+use Prim.Native.Nat.{ℕ, suc, zero, _+_, _≤_, _<_}
+use native.Mathlib.Omega.{arith}
+use native.Mathlib.Decide.{ℕ-discrete}
+use lib.ListN.{length}
+use lib.Dec.{eqb}
+use borrow.Author.Tests.{eq-eqb, ne-eqb}
+use Rattle.theory.specs.Rules.{Step, same, compare, left, right, down, swap, differ, Out, success, mismatch, kindOrder, refused12, refused13, dry, Mem, Res, Shape, var, arr, row, head, kids, asVar, kind, bound, fits, kindFits, isSame, signed, marked, passTo, pass, cause, alike, choose, compared, split, atVar, act, move, perform, each, onward, andThen, suits, other, heed, chase, settle, seek, zip}
+use Rattle.theory.specs.Rules.{Found as FoundT, free, ring, inside, lost}
+use Rattle.theory.specs.Rules.{Kind as KindT}
+use Rattle.types.specs.declared.Counts.{Counts}
+use Rattle.types.specs.declared.TypeId.{TypeId}
+use Rattle.types.specs.declared.VarId.{VarId}
+use Rattle.types.specs.declared.Kind.{Kind}
+use Rattle.types.specs.declared.Bound.{Bound}
+use Rattle.types.specs.declared.Bound.the-variants.{To as To·B, Open}
+use Rattle.types.specs.Memory.{pick, headAt, numberAt, outputAt, firstAt, countAt, inputsFrom, bindingAt, markAt, rowsOf, kindsOf, bindsOf, marksOf, memOf, Held}
+use Rattle.types.specs.Made.{marking, binding}
+use Rattle.types.specs.View.{type, variable, kindIn, boundCode, boundIn}
+use Rattle.unify.specs.declared.Decision.{Decision}
+use Rattle.unify.specs.declared.Decision.the-variants.{Same, Compare, Left, Right, Down, Swap, Differ}
+use Rattle.unify.specs.declared.Reply.{Reply}
+use Rattle.unify.specs.declared.Reply.the-variants.{Success, Mismatch, KindOrder, Refused12, Refused13, Dry}
+use Rattle.unify.specs.declared.Next.{Next}
+use Rattle.unify.specs.declared.Next.the-variants.{Done, On, Into}
+use Rattle.unify.specs.declared.Found.{Found}
+use Rattle.unify.specs.declared.Found.the-variants.{Free, Ring, Inside, Lost}
+use Rattle.unify.specs.Leaf.{rowsIn, kindsIn, memIn, rowIn, kindK, outK, stepK, Classed, Caused, Signed, SameVar, Compared}
+use Rattle.unify.specs.Search.{seekIn, Sought, foundK, parts}
+use Rattle.unify.specs.Step.{Frame, Rec, resume, Parted, Enterable, Went, Settled, Chased, Heeded, Met, Varied, downTo, Stepped}
+use Rattle.unify.specs.Bridge.{row-at, bound-at, mark-at, length-rows, head-row, var-row, no-var-row, kids-row, row-by}
+use Rattle.unify.specs.Frames.{frame-same, frame-trans, held-on, rows-same, kinds-same, marking-frame, marking-mem, binding-frame, binding-mem}
+use Rattle.unify.proofs.Laws.{kind-in}
+
+-- ── an open variable ──
+
+module _ (m : List ℕ) (c : Counts) (v : VarId) (z : TypeId) (f : Found) (a : Sought m c v z f) where
+  pub settle-free : (w : List ℕ) → f ≡ Free → w ≡ binding m (c .vars) (v .0) (z .0) → Settled m c v z w Success
+  settle-free w e p held = rw p (binding-frame m c held (v .0) (z .0), rw (← (a held), e, binding-mem m c held (v .0) (z .0)))
+
+  pub settle-ring : f ≡ Ring → Settled m c v z m Success
+  settle-ring e held = (frame-same m c, rw (← (a held), e))
+
+  pub settle-inside : f ≡ Inside → Settled m c v z m Refused12
+  settle-inside e held = (frame-same m c, rw (← (a held), e))
+
+  pub settle-lost : f ≡ Lost → Settled m c v z m Dry
+  settle-lost e held = (frame-same m c, rw (← (a held), e))
+
+-- ── its binding ──
+
+module _ (m : List ℕ) (c : Counts) (v : VarId) (b : Bound) (p : b ≡ boundIn m c v) where
+  open-is : b ≡ Open → bound (bindsOf m (c .vars)) (v .0) ≡ none
+  unfolding boundIn
+  open-is e = bound-at m (c .vars) (v .0) ∙ by (bindingAt m (c .vars) (v .0)) (sym p ∙ e)
+    where
+      by : (o : Option ℕ) → boundCode o ≡ Open → o ≡ none
+      by none k = refl
+      by (some y) k = cc
+
+  bound-is : (x : TypeId) → b ≡ To·B x → bound (bindsOf m (c .vars)) (v .0) ≡ some (x .0)
+  unfolding boundIn
+  bound-is x e = bound-at m (c .vars) (v .0) ∙ by (bindingAt m (c .vars) (v .0)) (sym p ∙ e)
+    where
+      by : (o : Option ℕ) → boundCode o ≡ To·B x → o ≡ some (x .0)
+      by none k = cc
+      by (some y) k = let g : type y ≡ x = cc in ap (λ (t : TypeId). some (t .0)) g
+
+  pub chase-open : (z : TypeId) (w : List ℕ) (r : Reply) → b ≡ Open → Settled m c v z w r → Chased m c v z w (Done r)
+  unfolding memOf seekIn
+  chase-open z w r e s held = record { frame = (s held) .0; left-over = λ rec. rw (open-is e) ((s held) .1); enterable = tt }
+
+  pub chase-bound : (z x : TypeId) → b ≡ To·B x → Chased m c v z m (On x z)
+  unfolding memOf
+  chase-bound z x e held = record { frame = frame-same m c; left-over = λ rec. rw (bound-is x e); enterable = tt }
+
+-- ── its mark ──
+
+module _ (m : List ℕ) (c : Counts) (v : VarId) (z : TypeId) where
+  marked-is : markAt m (c .vars) (v .0) ≡ marked (memIn m c) (v .0)
+  unfolding memOf
+  marked-is = sym (mark-at m (c .vars) (v .0))
+
+  -- an unmarked variable passes nothing on
+  pass-none : markAt m (c .vars) (v .0) ≡ false → pass (memIn m c) (v .0) (rowIn m c z) ≡ memIn m c
+  unfolding pass
+  pass-none e = rw (← marked-is, e)
+
+  -- nothing is passed on to what is no variable
+  pass-other : asVar (rowIn m c z) ≡ none → pass (memIn m c) (v .0) (rowIn m c z) ≡ memIn m c
+  unfolding pass
+  pass-other e = rw e (by (marked (memIn m c) (v .0)))
+    where
+      by : (t : Bool) → _≡_ {A = Mem} (record { binds = memIn m c .binds; marks = passTo t none (memIn m c .marks) }) (memIn m c)
+      by true = refl
+      by false = refl
+
+  pass-on : Held m c → (u : ℕ) → markAt m (c .vars) (v .0) ≡ true → asVar (rowIn m c z) ≡ some u → memIn (marking m (c .vars) u) c ≡ pass (memIn m c) (v .0) (rowIn m c z)
+  unfolding pass memOf
+  pass-on held u e f = marking-mem m c held u ∙ sym (rw (← marked-is, e, f) keep)
+    where
+      keep : _≡_ {A = Mem} (record { binds = memIn m c .binds; marks = Rattle.theory.specs.Rules.passTo true (some u) (memIn m c .marks) }) (record { binds = bindsOf m (c .vars); marks = lib.ListN.set (marksOf m (c .vars)) u true })
+      keep = refl
+
+  module _ (s : Bool) (ps : Signed m c z s) where
+    not-signed : s ≡ false → Heeded m c v z m (Done Refused13)
+    not-signed e held k = record { frame = frame-same m c; left-over = λ rec. rw (← ps, e); enterable = tt }
+
+    pub heed-refused : s ≡ false → Heeded m c v z m (Done Refused13)
+    heed-refused e = not-signed e
+
+    pub heed-other : (h : ℕ) (w : List ℕ) (r : Next) → s ≡ true → h ≡ headAt m (c .types) (z .0) → h ≢ 12 → Chased m c v z w r → Heeded m c v z w r
+    heed-other h w r e p d a held k =
+        let g = a held in
+        record { frame = g .frame; left-over = λ rec. rw (← ps, e, pass-other (no-var-row m (c .types) (z .0) (rw p at d))) (g .left-over rec); enterable = g .enterable }
+
+    pub heed-var : (h u : ℕ) (m₁ w : List ℕ) (r : Next) → s ≡ true → h ≡ headAt m (c .types) (z .0) → h ≡ 12 → u ≡ numberAt m (c .types) (z .0) → m₁ ≡ marking m (c .vars) u → Chased m₁ c v z w r → Heeded m c v z w r
+    unfolding pass
+    heed-var h u m₁ w r e p d q f a held k =
+        let as-u : asVar (rowIn m c z) ≡ some u = ap asVar (var-row m (c .types) (z .0) (sym p ∙ d)) ∙ ap some (sym q) in
+        let fr : Frame m c m₁ = rw f (marking-frame m c held u) in
+        let g = a (held-on m c m₁ fr held) in
+        let mem : memIn m₁ c ≡ pass (memIn m c) (v .0) (rowIn m c z) = rw f (pass-on held u k as-u) in
+        let rs : rowsIn m₁ c ≡ rowsIn m c = rows-same m c m₁ fr held (c .types) in
+        let ks : kindsIn m₁ c ≡ kindsIn m c = kinds-same m c m₁ fr held (c .vars) in
+        record {
+          frame = frame-trans m c m₁ w fr (g .frame);
+          left-over = λ rec. rw (← ps, e) (by rec mem rs ks (g .left-over rec));
+          enterable = g .enterable;
+        }
+      where
+        by : (rec : Rec) → memIn m₁ c ≡ pass (memIn m c) (v .0) (rowIn m c z) → rowsIn m₁ c ≡ rowsIn m c → kindsIn m₁ c ≡ kindsIn m c
+            → chase (rowsIn m₁ c) (kindsIn m₁ c) rec (memIn m₁ c) (v .0) (z .0) (bound (memIn m₁ c .binds) (v .0)) ≡ resume (rowsIn m₁ c) (kindsIn m₁ c) rec (memIn w c) r
+            → chase (rowsIn m c) (kindsIn m c) rec (pass (memIn m c) (v .0) (rowIn m c z)) (v .0) (z .0) (bound (memIn m c .binds) (v .0)) ≡ resume (rowsIn m c) (kindsIn m c) rec (memIn w c) r
+        by rec mem rs ks h = same-binds (rw (mem, rs, ks) at h)
+          where
+            same-binds : chase (rowsIn m c) (kindsIn m c) rec (pass (memIn m c) (v .0) (rowIn m c z)) (v .0) (z .0) (bound (pass (memIn m c) (v .0) (rowIn m c z) .binds) (v .0)) ≡ resume (rowsIn m c) (kindsIn m c) rec (memIn w c) r
+                → chase (rowsIn m c) (kindsIn m c) rec (pass (memIn m c) (v .0) (rowIn m c z)) (v .0) (z .0) (bound (memIn m c .binds) (v .0)) ≡ resume (rowsIn m c) (kindsIn m c) rec (memIn w c) r
+            same-binds h = h
+
+  -- ── a variable against a row of its kind ──
+
+  module _ (s : Bool) (ps : SameVar m c v z s) where
+    pub meet-same : s ≡ true → Met m c v z m (Done Success)
+    meet-same e held = record { frame = frame-same m c; left-over = λ rec. rw (← ps, e); enterable = tt }
+
+    module _ (ns : s ≡ false) (k : Bool) (pk : k ≡ markAt m (c .vars) (v .0)) where
+      pub meet-marked : (w : List ℕ) (r : Next) → k ≡ true → Heeded m c v z w r → Met m c v z w r
+      meet-marked w r e a held =
+          let g = a held (sym pk ∙ e) in
+          record { frame = g .frame; left-over = λ rec. rw (← ps, ns, ← marked-is, ← pk, e) (g .left-over rec); enterable = g .enterable }
+
+      pub meet-unmarked : (w : List ℕ) (r : Next) → k ≡ false → Chased m c v z w r → Met m c v z w r
+      meet-unmarked w r e a held =
+          let g = a held in
+          record { frame = g .frame; left-over = λ rec. rw (← ps, ns, ← marked-is, ← pk, e, pass-none (sym pk ∙ e)) (g .left-over rec); enterable = g .enterable }
+
+-- ── step 3 ──
+
+module _ (m : List ℕ) (c : Counts) (x z : TypeId) (h : ℕ) (p : h ≡ headAt m (c .types) (x .0)) where
+  pub variable-none : h ≢ 12 → Varied m c x z m (Done Mismatch)
+  unfolding atVar
+  variable-none d held = record { frame = frame-same m c; left-over = λ rec. rw (no-var-row m (c .types) (x .0) (rw p at d)); enterable = tt }
+
+  module _ (u : ℕ) (e : h ≡ 12) (q : u ≡ numberAt m (c .types) (x .0)) (k l : Kind) (pk : k ≡ kindIn m c (variable u)) (pl : Classed m c z l) (t : Bool) (pt : t ≡ kindFits (kindK k) (kindK l)) where
+    as-u : asVar (rowIn m c x) ≡ some u
+    as-u = ap asVar (var-row m (c .types) (x .0) (sym p ∙ e)) ∙ ap some (sym q)
+
+    test : fits (kindsIn m c) (kind (kindsIn m c) u) (rowIn m c z) ≡ t
+    test = rw (← (kind-in m c u k pk)) (pl (kindK k)) ∙ sym pt
+
+    pub variable-fits : (w : List ℕ) (r : Next) → t ≡ true → Met m c (variable u) z w r → Varied m c x z w r
+    unfolding atVar
+    variable-fits w r f a held = let g = a held in record { frame = g .frame; left-over = λ rec. rw (as-u, test, f) (g .left-over rec); enterable = g .enterable }
+
+    pub variable-fails : (a : Reply) → t ≡ false → Caused m c z a → Varied m c x z m (Done a)
+    unfolding atVar
+    variable-fails a f g held = record { frame = frame-same m c; left-over = λ rec. rw (as-u, test, f, g); enterable = tt }
+
+-- ── steps 1 to 5 ──
+
+last-success : (r : Res) → andThen r (λ m. (success, m)) ≡ r
+last-success r = by (r .0) (r .1)
+  where
+    by : (o : Out) (m : Mem) → onward o m (λ n. (success, n)) ≡ (o, m)
+    by success m = refl
+    by mismatch m = refl
+    by kindOrder m = refl
+    by refused12 m = refl
+    by refused13 m = refl
+    by dry m = refl
+
+eq-true : (a b : ℕ) → eqb a b ≡ true → a ≡ b
+eq-true a b e = by (ℕ-discrete a b)
+  where
+    by : Dec (a ≡ b) → a ≡ b
+    by (yes p) = p
+    by (no n) = let f : _≡_ {A = Bool} true false = sym e ∙ ne-eqb a b n in absurd (let y : _≡_ {A = ℕ} 0 1 = cc in omega arith)
+
+and-true : (a b : Bool) → (a && b) ≡ true → (a ≡ true) × (b ≡ true)
+and-true true b e = (refl, e)
+and-true false b e = (cc, cc)
+
+-- where the choice is parts against parts
+choose-inward : (e g : ℕ) → choose e g ≡ down → ((eqb e 8 && eqb g 8) ≡ true) ⊎ ((e ≡ 6) × (g ≡ 13))
+unfolding choose
+choose-inward e g h = by (compared e && eqb e g) (eqb g 11) (eqb e 8 && eqb g 8) (eqb e 12) (eqb g 12) (eqb e 6 && eqb g 13) (eqb e 13 && eqb g 6) (eqb e 10 || eqb g 10) refl refl h
+  where
+    two : (eqb e 6 && eqb g 13) ≡ true → (e ≡ 6) × (g ≡ 13)
+    two q = let r = and-true (eqb e 6) (eqb g 13) q in (eq-true e 6 (r .0), eq-true g 13 (r .1))
+
+    by : (a b d l r p s t : Bool) → (eqb e 8 && eqb g 8) ≡ d → (eqb e 6 && eqb g 13) ≡ p → cond a compare (cond b same (cond d down (cond l left (cond r right (cond p down (cond s swap (cond t same differ))))))) ≡ down → ((eqb e 8 && eqb g 8) ≡ true) ⊎ ((e ≡ 6) × (g ≡ 13))
+    by true b d l r p s t i j k = absurd (let y : _≡_ {A = ℕ} 0 1 = cc in omega arith)
+    by false true d l r p s t i j k = absurd (let y : _≡_ {A = ℕ} 0 1 = cc in omega arith)
+    by false false true l r p s t i j k = inl i
+    by false false false true r p s t i j k = absurd (let y : _≡_ {A = ℕ} 0 1 = cc in omega arith)
+    by false false false false true p s t i j k = absurd (let y : _≡_ {A = ℕ} 0 1 = cc in omega arith)
+    by false false false false false true s t i j k = inr (two j)
+    by false false false false false false true t i j k = absurd (let y : _≡_ {A = ℕ} 0 1 = cc in omega arith)
+    by false false false false false false false true i j k = absurd (let y : _≡_ {A = ℕ} 0 1 = cc in omega arith)
+    by false false false false false false false false i j k = absurd (let y : _≡_ {A = ℕ} 0 1 = cc in omega arith)
+
+choose-swapped : (e g : ℕ) → choose e g ≡ swap → (e ≡ 13) × (g ≡ 6)
+unfolding choose
+choose-swapped e g h = by (compared e && eqb e g) (eqb g 11) (eqb e 8 && eqb g 8) (eqb e 12) (eqb g 12) (eqb e 6 && eqb g 13) (eqb e 13 && eqb g 6) (eqb e 10 || eqb g 10) refl h
+  where
+    two : (eqb e 13 && eqb g 6) ≡ true → (e ≡ 13) × (g ≡ 6)
+    two q = let r = and-true (eqb e 13) (eqb g 6) q in (eq-true e 13 (r .0), eq-true g 6 (r .1))
+
+    by : (a b d l r p s t : Bool) → (eqb e 13 && eqb g 6) ≡ s → cond a compare (cond b same (cond d down (cond l left (cond r right (cond p down (cond s swap (cond t same differ))))))) ≡ swap → (e ≡ 13) × (g ≡ 6)
+    by true b d l r p s t j k = absurd (let y : _≡_ {A = ℕ} 0 1 = cc in omega arith)
+    by false true d l r p s t j k = absurd (let y : _≡_ {A = ℕ} 0 1 = cc in omega arith)
+    by false false true l r p s t j k = absurd (let y : _≡_ {A = ℕ} 0 1 = cc in omega arith)
+    by false false false true r p s t j k = absurd (let y : _≡_ {A = ℕ} 0 1 = cc in omega arith)
+    by false false false false true p s t j k = absurd (let y : _≡_ {A = ℕ} 0 1 = cc in omega arith)
+    by false false false false false true s t j k = absurd (let y : _≡_ {A = ℕ} 0 1 = cc in omega arith)
+    by false false false false false false true t j k = two j
+    by false false false false false false false true j k = absurd (let y : _≡_ {A = ℕ} 0 1 = cc in omega arith)
+    by false false false false false false false false j k = absurd (let y : _≡_ {A = ℕ} 0 1 = cc in omega arith)
+
+-- a function's or a lambda's row is made of its output and inputs
+parted : (m : List ℕ) (c : Counts) (x : TypeId) → (headAt m (c .types) (x .0) ≡ 6) ⊎ (headAt m (c .types) (x .0) ≡ 13) → Parted m c x
+unfolding parts
+parted m c x (inl e) = kids-row m c x ∙ rw e
+parted m c x (inr e) = kids-row m c x ∙ rw e
+
+-- an array's row is made of its element
+array-kids : (m : List ℕ) (c : Counts) (x : TypeId) → headAt m (c .types) (x .0) ≡ 8 → kids (rowIn m c x) ≡ numberAt m (c .types) (x .0) ∷ []
+unfolding parts
+array-kids m c x e = kids-row m c x ∙ rw e
+
+module _ (m : List ℕ) (c : Counts) (x y : TypeId) (h k : ℕ) (ph : h ≡ headAt m (c .types) (x .0)) (pk : k ≡ headAt m (c .types) (y .0)) (d : Decision) (pd : stepK d ≡ choose h k) where
+  moves : move (rowsIn m c) (kindsIn m c) (x .0) (y .0) ≡ act (x .0) (y .0) (rowIn m c x) (rowIn m c y) (stepK d)
+  moves = rw (head-row m (c .types) (x .0), head-row m (c .types) (y .0), ← ph, ← pk, ← pd)
+
+  -- where the memory stays, and the rules do what r leaves
+  stay : (r : Next) → Enterable m c r → ((rec : Rec) → perform (rowsIn m c) (kindsIn m c) rec (memIn m c) (act (x .0) (y .0) (rowIn m c x) (rowIn m c y) (stepK d)) ≡ resume (rowsIn m c) (kindsIn m c) rec (memIn m c) r) → Stepped m c x y m r
+  stay r n f held = record { frame = frame-same m c; left-over = λ rec. rw moves (f rec); enterable = n }
+
+  pub step-same : d ≡ Same → Stepped m c x y m (Done Success)
+  unfolding act
+  step-same e = stay (Done Success) tt (λ rec. rw e)
+
+  pub step-compare : (a : Reply) → d ≡ Compare → Compared m c x y a → Stepped m c x y m (Done a)
+  unfolding act
+  step-compare a e f = stay (Done a) tt (λ rec. rw (e, ← f))
+
+  pub step-differ : d ≡ Differ → Stepped m c x y m (Done Mismatch)
+  unfolding act
+  step-differ e = stay (Done Mismatch) tt (λ rec. rw e)
+
+  pub step-left : (w : List ℕ) (r : Next) → d ≡ Left → Varied m c x y w r → Stepped m c x y w r
+  unfolding act
+  step-left w r e a held = let g = a held in record { frame = g .frame; left-over = λ rec. rw (moves, e) (g .left-over rec); enterable = g .enterable }
+
+  pub step-right : (w : List ℕ) (r : Next) → d ≡ Right → Varied m c y x w r → Stepped m c x y w r
+  unfolding act
+  step-right w r e a held = let g = a held in record { frame = g .frame; left-over = λ rec. rw (moves, e) (g .left-over rec); enterable = g .enterable }
+
+  pub step-swap : d ≡ Swap → Stepped m c x y m (Into y x)
+  unfolding act
+  step-swap e =
+      let g = choose-swapped h k (rw e at (sym pd)) in
+      stay (Into y x) (parted m c y (inl (sym pk ∙ g .1)), parted m c x (inr (sym ph ∙ g .0))) (λ rec. rw e)
+
+  down-arrays : d ≡ Down → (eqb h 8 && eqb k 8) ≡ true → Stepped m c x y m (On (type (numberAt m (c .types) (x .0))) (type (numberAt m (c .types) (y .0))))
+  unfolding act split
+  down-arrays e b =
+      let g = and-true (eqb h 8) (eqb k 8) b in
+      let kx = array-kids m c x (sym ph ∙ eq-true h 8 (g .0)) in
+      let ky = array-kids m c y (sym pk ∙ eq-true k 8 (g .1)) in
+      stay (On (type (numberAt m (c .types) (x .0))) (type (numberAt m (c .types) (y .0)))) tt (λ rec. rw (e, kx, ky) (last-success (rec (memIn m c) (numberAt m (c .types) (x .0)) (numberAt m (c .types) (y .0)))))
+
+  down-parts : d ≡ Down → (eqb h 8 && eqb k 8) ≡ false → Stepped m c x y m (Into x y)
+  unfolding act
+  down-parts e b = by (choose-inward h k (rw e at (sym pd)))
+    where
+      by : ((eqb h 8 && eqb k 8) ≡ true) ⊎ ((h ≡ 6) × (k ≡ 13)) → Stepped m c x y m (Into x y)
+      by (inl q) = absurd (let f : _≡_ {A = Bool} true false = sym q ∙ b in let y : _≡_ {A = ℕ} 0 1 = cc in omega arith)
+      by (inr q) = stay (Into x y) (parted m c x (inl (sym ph ∙ q .0)), parted m c y (inr (sym pk ∙ q .1))) (λ rec. rw e)
+
+  pub step-down : (r : Next) → d ≡ Down → r ≡ downTo m c x y → Stepped m c x y m r
+  unfolding downTo
+  step-down r e f = by (eqb h 8 && eqb k 8) refl
+    where
+      by : (b : Bool) → (eqb h 8 && eqb k 8) ≡ b → Stepped m c x y m r
+      by true q = rw (f, ← ph, ← pk, q) (down-arrays e q)
+      by false q = rw (f, ← ph, ← pk, q) (down-parts e q)

@@ -1,0 +1,229 @@
+-- What a mark and a binding change in the memory, and what stays.
+use mathlib.Core.Path.{_≡_, refl, sym, ap, _∙_}
+use mathlib.Core.Logic.{_≢_}
+use mathlib.Core.List.{List, [], _∷_}
+use mathlib.Core.Option.{Option, none, some}
+use mathlib.Core.Bool.{Bool, true, false}
+use Prim.Native.Nat.{ℕ, suc, zero, _+_, _*_, _≤_, _<_}
+use native.Mathlib.Omega.{arith}
+use native.Mathlib.Decide.{decLt, ℕ-discrete}
+use lib.ListN.{getD, set, length, length-set}
+use lib.Seq.{getD-set-same, getD-set-other, set-out}
+use lib.Dec.{eqb, ltb, leb}
+use borrow.Author.Tests.{eq-eqb, ne-eqb, lt-ltb, le-ltb, lt-leb, le-leb}
+use Rattle.theory.specs.Rules.{Mem, bind}
+use Rattle.types.specs.declared.Counts.{Counts}
+use Rattle.types.specs.declared.TypeId.{TypeId}
+use Rattle.types.specs.Memory.{pick, tab, cell, rows-at, inputs-at, rowCell, headAt, numberAt, outputAt, firstAt, countAt, inputsFrom, shapeOf, shapeAt, rowsOf, varCell, kindAt, kindsOf, bindingAt, bindsOf, markAt, marksOf, memOf, Held}
+use Rattle.types.specs.Made.{marking, binding}
+use Rattle.unify.specs.Leaf.{rowsIn, kindsIn, memIn}
+use Rattle.unify.specs.Step.{Frame}
+use Rattle.unify.specs.Bridge.{tab-ext, tab-set, length-tab}
+
+pub frame-same : (m : List ℕ) (c : Counts) → Frame m c m
+frame-same m c = record { size = refl; same = λ i h. refl; unbound = λ v e. (refl, refl); unmarked = λ v e. refl }
+
+-- ── what a frame keeps ──
+
+module _ (m : List ℕ) (c : Counts) (w : List ℕ) (f : Frame m c w) where
+  pub held-on : Held m c → Held w c
+  held-on h = record { room = rw (f .size) (h .room); vars = h .vars; types = h .types }
+
+  module _ (held : Held m c) where
+    -- a cell at or above the rows
+    above : (i : ℕ) → 5120 ≤ i → cell w i ≡ cell m i
+    above i h = f .same i (λ v k a b d e. omega (arith, held .vars))
+
+    -- a kind or an origin
+    below : (v j : ℕ) → j < 2 → cell w (v * 5 + j) ≡ cell m (v * 5 + j)
+    below v j h = f .same (v * 5 + j) (λ u k a b d e. omega arith)
+
+    pub inputs-same : (x k : ℕ) → inputsFrom w x k ≡ inputsFrom m x k
+    unfolding inputsFrom
+    inputs-same x zero = refl
+    inputs-same x (suc k) = rw (above (inputs-at + x) (omega arith), inputs-same (suc x) k)
+
+    row-cell : (n x k : ℕ) → rowCell w n x k ≡ rowCell m n x k
+    row-cell n x k = ap (pick (leb n x) 0) (above (rows-at + x * 5 + k) (omega arith))
+
+    pub head-same : (n x : ℕ) → headAt w n x ≡ headAt m n x
+    unfolding headAt
+    head-same n x = rw (above (rows-at + x * 5) (omega arith))
+
+    pub number-same : (n x : ℕ) → numberAt w n x ≡ numberAt m n x
+    unfolding numberAt
+    number-same n x = row-cell n x 1
+
+    pub output-same : (n x : ℕ) → outputAt w n x ≡ outputAt m n x
+    unfolding outputAt
+    output-same n x = row-cell n x 2
+
+    pub first-same : (n x : ℕ) → firstAt w n x ≡ firstAt m n x
+    unfolding firstAt
+    first-same n x = row-cell n x 3
+
+    pub count-same : (n x : ℕ) → countAt w n x ≡ countAt m n x
+    unfolding countAt
+    count-same n x = row-cell n x 4
+
+    shape-same : (n x : ℕ) → shapeAt w n x ≡ shapeAt m n x
+    unfolding shapeAt
+    shape-same n x = rw (head-same n x, number-same n x, output-same n x, first-same n x, count-same n x, inputs-same (firstAt m n x) (countAt m n x))
+
+    pub rows-same : (n : ℕ) → rowsOf w n ≡ rowsOf m n
+    unfolding rowsOf
+    rows-same n = tab-ext (shapeAt m n) (shapeAt w n) n (λ i h. shape-same n i)
+
+    pub kinds-same : (n : ℕ) → kindsOf w n ≡ kindsOf m n
+    unfolding kindsOf kindAt
+    kinds-same n = tab-ext (kindAt m n) (kindAt w n) n (λ v h. rw (below v 0 (omega arith)))
+
+-- a variable whose binding cells are the same has the same binding
+same-binding : (m w : List ℕ) (n v : ℕ) → (cell w (v * 5 + 2) ≡ cell m (v * 5 + 2)) × (cell w (v * 5 + 3) ≡ cell m (v * 5 + 3)) → bindingAt w n v ≡ bindingAt m n v
+unfolding bindingAt
+same-binding m w n v e = rw (e .0, e .1)
+
+same-mark : (m w : List ℕ) (n v : ℕ) → cell w (v * 5 + 4) ≡ cell m (v * 5 + 4) → markAt w n v ≡ markAt m n v
+unfolding markAt
+same-mark m w n v e = rw e
+
+pub frame-trans : (m : List ℕ) (c : Counts) (w u : List ℕ) → Frame m c w → Frame w c u → Frame m c u
+frame-trans m c w u a b =
+    record {
+      size = b .size ∙ a .size;
+      same = λ i h. b .same i h ∙ a .same i h;
+      unbound = λ v e. (let g = b .unbound v e in let h = a .unbound v (sym (same-binding w u (c .vars) v g) ∙ e) in (g .0 ∙ h .0, g .1 ∙ h .1));
+      unmarked = λ v e. (let g = b .unmarked v e in g ∙ a .unmarked v (sym (same-mark w u (c .vars) v g) ∙ e));
+    }
+
+-- ── a mark ──
+
+module _ (m : List ℕ) (c : Counts) (held : Held m c) (v : ℕ) where
+  module _ (hv : v < c .vars) where
+    abbrev now-marked : List ℕ
+    now-marked = set m (v * 5 + 4) 1
+
+    is-marked : marking m (c .vars) v ≡ now-marked
+    unfolding marking
+    is-marked = rw (lt-ltb v (c .vars) hv)
+
+    mark-other : (i : ℕ) → i ≢ v * 5 + 4 → cell now-marked i ≡ cell m i
+    mark-other i d = getD-set-other m (v * 5 + 4) i 1 0 d
+
+    mark-here : cell now-marked (v * 5 + 4) ≡ 1
+    mark-here = getD-set-same m (v * 5 + 4) 1 0 (omega (arith, held .room))
+
+    marked-now : markAt now-marked (c .vars) v ≡ true
+    unfolding markAt
+    marked-now = rw (lt-leb (c .vars) v hv, mark-here)
+
+    mark-frame : Frame m c now-marked
+    mark-frame =
+        record {
+          size = length-set m (v * 5 + 4) 1;
+          same = λ i h. mark-other i (h v 4 hv (omega arith) (omega arith));
+          unbound = λ u e. (mark-other (u * 5 + 2) (λ q. omega arith), mark-other (u * 5 + 3) (λ q. omega arith));
+          unmarked = λ u e. by u e (ℕ-discrete u v);
+        }
+      where
+        by : (u : ℕ) → markAt now-marked (c .vars) u ≡ false → Dec (u ≡ v) → cell now-marked (u * 5 + 4) ≡ cell m (u * 5 + 4)
+        by u e (yes q) = let g = rw q at e in let h : _≡_ {A = Bool} true false = sym marked-now ∙ g in absurd (let y : _≡_ {A = ℕ} 0 1 = cc in omega arith)
+        by u e (no d) = mark-other (u * 5 + 4) (λ q. d (omega arith))
+
+    mark-binds : bindsOf now-marked (c .vars) ≡ bindsOf m (c .vars)
+    unfolding bindsOf
+    mark-binds = tab-ext (bindingAt m (c .vars)) (bindingAt now-marked (c .vars)) (c .vars) (λ u h. same-binding m now-marked (c .vars) u (mark-other (u * 5 + 2) (λ q. omega arith), mark-other (u * 5 + 3) (λ q. omega arith)))
+
+    mark-marks : marksOf now-marked (c .vars) ≡ set (marksOf m (c .vars)) v true
+    unfolding marksOf
+    mark-marks = tab-set (markAt m (c .vars)) (markAt now-marked (c .vars)) (c .vars) v true (λ u h d. same-mark m now-marked (c .vars) u (mark-other (u * 5 + 4) (λ q. d (omega arith)))) (λ h. marked-now)
+
+  out-marks : c .vars ≤ v → set (marksOf m (c .vars)) v true ≡ marksOf m (c .vars)
+  unfolding marksOf
+  out-marks h = set-out (tab (markAt m (c .vars)) (c .vars)) v true (rw (length-tab (markAt m (c .vars)) (c .vars)) h)
+
+  not-marking : c .vars ≤ v → marking m (c .vars) v ≡ m
+  unfolding marking
+  not-marking h = rw (le-ltb v (c .vars) h)
+
+  pub marking-frame : Frame m c (marking m (c .vars) v)
+  marking-frame = by (decLt v (c .vars))
+    where
+      by : Dec (v < c .vars) → Frame m c (marking m (c .vars) v)
+      by (yes h) = rw (is-marked h) (mark-frame h)
+      by (no h) = let k : c .vars ≤ v = omega arith in rw (not-marking k) (frame-same m c)
+
+  -- a mark is set in the tables
+  pub marking-mem : memOf (marking m (c .vars) v) (c .vars) ≡ record { binds = bindsOf m (c .vars); marks = set (marksOf m (c .vars)) v true }
+  unfolding memOf
+  marking-mem = by (decLt v (c .vars))
+    where
+      by : Dec (v < c .vars) → memOf (marking m (c .vars) v) (c .vars) ≡ record { binds = bindsOf m (c .vars); marks = set (marksOf m (c .vars)) v true }
+      by (yes h) = rw (is-marked h, mark-binds h, mark-marks h)
+      by (no h) = let k : c .vars ≤ v = omega arith in rw (not-marking k, out-marks k)
+
+-- ── a binding ──
+
+module _ (m : List ℕ) (c : Counts) (held : Held m c) (v z : ℕ) where
+  module _ (hv : v < c .vars) where
+    abbrev now-bound : List ℕ
+    now-bound = set (set m (v * 5 + 2) 1) (v * 5 + 3) z
+
+    is-bound : binding m (c .vars) v z ≡ now-bound
+    unfolding binding
+    is-bound = rw (lt-ltb v (c .vars) hv)
+
+    bind-other : (i : ℕ) → i ≢ v * 5 + 2 → i ≢ v * 5 + 3 → cell now-bound i ≡ cell m i
+    bind-other i d e = getD-set-other (set m (v * 5 + 2) 1) (v * 5 + 3) i z 0 e ∙ getD-set-other m (v * 5 + 2) i 1 0 d
+
+    bound-now : bindingAt now-bound (c .vars) v ≡ some z
+    unfolding bindingAt
+    bound-now =
+        let a : cell now-bound (v * 5 + 2) ≡ 1 = getD-set-other (set m (v * 5 + 2) 1) (v * 5 + 3) (v * 5 + 2) z 0 (λ q. omega arith) ∙ getD-set-same m (v * 5 + 2) 1 0 (omega (arith, held .room)) in
+        let b : cell now-bound (v * 5 + 3) ≡ z = getD-set-same (set m (v * 5 + 2) 1) (v * 5 + 3) z 0 (omega (arith, held .room, length-set m (v * 5 + 2) 1)) in
+        rw (lt-leb (c .vars) v hv, a, b)
+
+    bind-frame : Frame m c now-bound
+    bind-frame =
+        record {
+          size = length-set (set m (v * 5 + 2) 1) (v * 5 + 3) z ∙ length-set m (v * 5 + 2) 1;
+          same = λ i h. bind-other i (h v 2 hv (omega arith) (omega arith)) (h v 3 hv (omega arith) (omega arith));
+          unbound = λ u e. by u e (ℕ-discrete u v);
+          unmarked = λ u e. bind-other (u * 5 + 4) (λ q. omega arith) (λ q. omega arith);
+        }
+      where
+        by : (u : ℕ) → bindingAt now-bound (c .vars) u ≡ none → Dec (u ≡ v) → (cell now-bound (u * 5 + 2) ≡ cell m (u * 5 + 2)) × (cell now-bound (u * 5 + 3) ≡ cell m (u * 5 + 3))
+        by u e (yes q) = let g = rw q at e in let h : some z ≡ none = sym bound-now ∙ g in absurd (let y : _≡_ {A = ℕ} 0 1 = cc in omega arith)
+        by u e (no d) = (bind-other (u * 5 + 2) (λ q. d (omega arith)) (λ q. omega arith), bind-other (u * 5 + 3) (λ q. omega arith) (λ q. d (omega arith)))
+
+    bind-binds : bindsOf now-bound (c .vars) ≡ set (bindsOf m (c .vars)) v (some z)
+    unfolding bindsOf
+    bind-binds = tab-set (bindingAt m (c .vars)) (bindingAt now-bound (c .vars)) (c .vars) v (some z) (λ u h d. same-binding m now-bound (c .vars) u (bind-other (u * 5 + 2) (λ q. d (omega arith)) (λ q. omega arith), bind-other (u * 5 + 3) (λ q. omega arith) (λ q. d (omega arith)))) (λ h. bound-now)
+
+    bind-marks : marksOf now-bound (c .vars) ≡ marksOf m (c .vars)
+    unfolding marksOf
+    bind-marks = tab-ext (markAt m (c .vars)) (markAt now-bound (c .vars)) (c .vars) (λ u h. same-mark m now-bound (c .vars) u (bind-other (u * 5 + 4) (λ q. omega arith) (λ q. omega arith)))
+
+  out-binds : c .vars ≤ v → set (bindsOf m (c .vars)) v (some z) ≡ bindsOf m (c .vars)
+  unfolding bindsOf
+  out-binds h = set-out (tab (bindingAt m (c .vars)) (c .vars)) v (some z) (rw (length-tab (bindingAt m (c .vars)) (c .vars)) h)
+
+  not-binding : c .vars ≤ v → binding m (c .vars) v z ≡ m
+  unfolding binding
+  not-binding h = rw (le-ltb v (c .vars) h)
+
+  pub binding-frame : Frame m c (binding m (c .vars) v z)
+  binding-frame = by (decLt v (c .vars))
+    where
+      by : Dec (v < c .vars) → Frame m c (binding m (c .vars) v z)
+      by (yes h) = rw (is-bound h) (bind-frame h)
+      by (no h) = let k : c .vars ≤ v = omega arith in rw (not-binding k) (frame-same m c)
+
+  -- a variable is bound in the tables
+  pub binding-mem : memOf (binding m (c .vars) v z) (c .vars) ≡ bind (memOf m (c .vars)) v z
+  unfolding memOf bind
+  binding-mem = by (decLt v (c .vars))
+    where
+      by : Dec (v < c .vars) → memOf (binding m (c .vars) v z) (c .vars) ≡ bind (memOf m (c .vars)) v z
+      by (yes h) = rw (is-bound h, bind-binds h, bind-marks h)
+      by (no h) = let k : c .vars ≤ v = omega arith in rw (not-binding k, out-binds k)

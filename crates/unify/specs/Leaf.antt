@@ -1,0 +1,84 @@
+-- What the leaves answer: the kind test, the cause, the mark's test, the choice of the step, step 1's comparison.
+use mathlib.Core.Path.{_≡_}
+use mathlib.Core.List.{List}
+use mathlib.Core.Bool.{Bool, cond}
+use Prim.Native.Nat.{ℕ, _+_}
+use lib.Dec.{eqb, ltb}
+use Rattle.theory.specs.Rules.{Shape, Step, same, compare, left, right, down, swap, differ, Out, success, mismatch, kindOrder, refused12, refused13, dry, Mem, row, asVar, fits, kindFits, cause, signed, isSame, alike, regular, integer, floating}
+use Rattle.theory.specs.Rules.{Kind as KindT}
+use Rattle.types.specs.declared.Counts.{Counts}
+use Rattle.types.specs.declared.TypeId.{TypeId}
+use Rattle.types.specs.declared.VarId.{VarId}
+use Rattle.types.specs.declared.Kind.{Kind}
+use Rattle.types.specs.declared.Kind.the-variants.{Regular, Integer, Float}
+use Rattle.types.specs.Memory.{pick, rowsOf, kindsOf, bindsOf, memOf}
+use Rattle.unify.specs.declared.Decision.{Decision}
+use Rattle.unify.specs.declared.Decision.the-variants.{Same, Compare, Left, Right, Down, Swap, Differ}
+use Rattle.unify.specs.declared.Reply.{Reply}
+use Rattle.unify.specs.declared.Reply.the-variants.{Success, Mismatch, KindOrder, Refused12, Refused13, Dry}
+
+abbrev pub rowsIn : List ℕ → Counts → List Shape
+rowsIn m c = rowsOf m (c .types)
+
+abbrev pub kindsIn : List ℕ → Counts → List KindT
+kindsIn m c = kindsOf m (c .vars)
+
+abbrev pub memIn : List ℕ → Counts → Mem
+memIn m c = memOf m (c .vars)
+
+-- the row x of a memory
+abbrev pub rowIn : List ℕ → Counts → TypeId → Shape
+rowIn m c x = row (rowsIn m c) (x .0)
+
+abbrev pub kindK : Kind → KindT
+kindK Regular = regular
+kindK Integer = integer
+kindK Float = floating
+
+abbrev pub outK : Reply → Out
+outK Success = success
+outK Mismatch = mismatch
+outK KindOrder = kindOrder
+outK Refused12 = refused12
+outK Refused13 = refused13
+outK Dry = dry
+
+abbrev pub stepK : Decision → Step
+stepK Same = same
+stepK Compare = compare
+stepK Left = left
+stepK Right = right
+stepK Down = down
+stepK Swap = swap
+stepK Differ = differ
+
+-- a row's class decides every kind test against it
+abbrev pub Classed : List ℕ → Counts → TypeId → Kind → Type 0
+Classed m c z r = (k : KindT) → fits (kindsIn m c) k (rowIn m c z) ≡ kindFits k (kindK r)
+
+abbrev pub Caused : List ℕ → Counts → TypeId → Reply → Type 0
+Caused m c z r = outK r ≡ cause (kindsIn m c) (asVar (rowIn m c z))
+
+abbrev pub Signed : List ℕ → Counts → TypeId → Bool → Type 0
+Signed m c z r = r ≡ signed (rowIn m c z)
+
+abbrev pub SameVar : List ℕ → Counts → VarId → TypeId → Bool → Type 0
+SameVar m c v z r = r ≡ isSame (v .0) (asVar (rowIn m c z))
+
+abbrev pub Compared : List ℕ → Counts → TypeId → TypeId → Reply → Type 0
+Compared m c x y r = outK r ≡ cond (alike (rowIn m c x) (rowIn m c y)) success mismatch
+
+abbrev pub cap : ℕ → ℕ
+cap a = pick (ltb a 3) a 3
+
+-- a number for each type that step 1 compares, and 0 for every other head
+unfoldable pub code : ℕ → ℕ → ℕ
+code h a =
+    pick (eqb h 0) 1
+    (pick (eqb h 1) (cap a + 2)
+    (pick (eqb h 2) (cap a + 6)
+    (pick (eqb h 3) 10
+    (pick (eqb h 4) 11
+    (pick (eqb h 5) (a + 13)
+    (pick (eqb h 9) 12
+    0))))))

@@ -1,0 +1,726 @@
+// Unification over the memory of the crate `types`: the equation of an expected and a got row, by steps 1 to 5 of document 01.
+ghost use mathlib.Core.Path.{_≡_};
+ghost use mathlib.Core.List.{List};
+ghost use mathlib.Core.Bool.{_&&_, _||_};
+ghost use Prim.Native.Nat.{ℕ, _+_, _≤_};
+ghost use lib.Dec.{eqb};
+ghost use Rattle.theory.specs.Rules.{kindFits};
+ghost use Rattle.theory.specs.Rules.{compared as compared·T, choose as choose·T};
+ghost use Rattle.theory.specs.Program.{clip as clip·T};
+ghost use Rattle.types.specs.Memory.{inputsFrom};
+ghost use Rattle.unify.specs.Leaf.{kindK, stepK, cap, code, Classed, Caused, Signed, Compared, SameVar};
+ghost use Rattle.unify.specs.Search.{queue, pushF, pushAll, parts, Visited, Reached, Stands, LedVar, Led, Sought};
+ghost use Rattle.unify.specs.Step.{Settled, Chased, Heeded, Met, Varied, downTo, Stepped};
+ghost use Rattle.unify.specs.Unify.{isSuccess, Eached, Entered, Unified, answerOf, heldIn, Solved};
+use types::Bound;
+use types::Counts;
+use types::InputRange;
+use types::Kind;
+use types::TypeId;
+use types::VarId;
+
+// What sets the causes of a mismatch apart: 2 is kind order.
+pub enum Cause {
+    Other,
+    KindOrder,
+}
+
+// The answer to an equation.
+pub enum Answer {
+    Success,
+    Mismatch(Cause),
+    Refused12,
+    Refused13,
+}
+
+// ── step 3: the kind test, the cause, the mark ──
+
+// Integer-like, float-like or neither, as the kind test sees a row.
+fn class(m: &[u16], c: Counts, z: TypeId) -> Kind
+    ensures { λ r. ⌜ Classed (now (m .entry)) c z r ⌝ }
+{
+    let h = types::head(m, c, z);
+    match h {
+        1 => Kind::Integer,
+        2 => Kind::Integer,
+        3 => Kind::Float,
+        4 => Kind::Float,
+        12 => {
+            let u = types::number(m, c, z);
+            types::kind_of(m, c, VarId(u))
+        }
+        _ => Kind::Regular,
+    }
+}
+
+// The kind test, of a variable's kind against a row's class.
+fn kind_test(k: Kind, l: Kind) -> bool
+    ensures { λ r. ⌜ r ≡ kindFits (kindK k) (kindK l) ⌝ }
+{
+    match k {
+        Kind::Regular => true,
+        Kind::Integer => match l {
+            Kind::Integer => true,
+            Kind::Regular => false,
+            Kind::Float => false,
+        },
+        Kind::Float => match l {
+            Kind::Float => true,
+            Kind::Regular => false,
+            Kind::Integer => false,
+        },
+    }
+}
+
+// The cause of a failed kind test: kind order against a Regular variable.
+fn cause_of(m: &[u16], c: Counts, z: TypeId) -> Reply
+    ensures { λ r. ⌜ Caused (now (m .entry)) c z r ⌝ }
+{
+    let h = types::head(m, c, z);
+    if h == 12 {
+        let u = types::number(m, c, z);
+        return match types::kind_of(m, c, VarId(u)) {
+            Kind::Regular => Reply::KindOrder,
+            Kind::Integer => Reply::Mismatch,
+            Kind::Float => Reply::Mismatch,
+        };
+    }
+    Reply::Mismatch
+}
+
+// Whether a marked variable may meet a row: Int, or a variable.
+fn signed(m: &[u16], c: Counts, z: TypeId) -> bool
+    ensures { λ r. ⌜ Signed (now (m .entry)) c z r ⌝ }
+{
+    let h = types::head(m, c, z);
+    if h == 2 {
+        return true;
+    }
+    h == 12
+}
+
+// Whether a row is that of the variable v.
+fn same_var(m: &[u16], c: Counts, v: VarId, z: TypeId) -> bool
+    ensures { λ r. ⌜ SameVar (now (m .entry)) c v z r ⌝ }
+{
+    let h = types::head(m, c, z);
+    if h == 12 {
+        let u = types::number(m, c, z);
+        let w = v.0;
+        return u == w;
+    }
+    false
+}
+
+// ── the choice of the step ──
+
+// What an inner step answers; `Dry` is never met in sound tables.
+enum Reply {
+    Success,
+    Mismatch,
+    KindOrder,
+    Refused12,
+    Refused13,
+    Dry,
+}
+
+// What two heads call for.
+enum Decision {
+    Same,
+    Compare,
+    Left,
+    Right,
+    Down,
+    Swap,
+    Differ,
+}
+
+// The heads that step 1 compares.
+fn compared(h: u16) -> bool
+    ensures { λ r. ⌜ r ≡ compared·T h ⌝ }
+{
+    if h < 6 { true } else { h == 9 }
+}
+
+fn both(a: u16, x: u16, b: u16, y: u16) -> bool
+    ensures { λ r. ⌜ r ≡ (eqb a x && eqb b y) ⌝ }
+{
+    if a == x { b == y } else { false }
+}
+
+fn either(a: u16, b: u16, x: u16) -> bool
+    ensures { λ r. ⌜ r ≡ (eqb a x || eqb b x) ⌝ }
+{
+    if a == x { true } else { b == x }
+}
+
+// Equal heads that step 1 compares.
+fn equal_bases(e: u16, g: u16) -> bool
+    ensures { λ r. ⌜ r ≡ (compared·T e && eqb e g) ⌝ }
+{
+    if compared(e) { e == g } else { false }
+}
+
+// Steps 1 to 5, by the heads of the expected and of the got side.
+fn choose(e: u16, g: u16) -> Decision
+    ensures { λ r. ⌜ stepK r ≡ choose·T e g ⌝ }
+{
+    if equal_bases(e, g) {
+        return Decision::Compare;
+    }
+    if g == 11 {
+        return Decision::Same;
+    }
+    if both(e, 8, g, 8) {
+        return Decision::Down;
+    }
+    if e == 12 {
+        return Decision::Left;
+    }
+    if g == 12 {
+        return Decision::Right;
+    }
+    if both(e, 6, g, 13) {
+        return Decision::Down;
+    }
+    if both(e, 13, g, 6) {
+        return Decision::Swap;
+    }
+    if either(e, g, 10) {
+        return Decision::Same;
+    }
+    Decision::Differ
+}
+
+fn capped(a: u16) -> u16
+    ensures { λ r. ⌜ r ≡ cap a ⌝ }
+    ensures { λ r. ⌜ r ≤ 3 ⌝ }
+{
+    if a < 3 { a } else { 3 }
+}
+
+// A number for each type that step 1 compares, and 0 for every other head.
+fn base_code(h: u16, a: u16) -> u32
+    ensures { λ r. ⌜ r ≡ code h a ⌝ }
+{
+    match h {
+        0 => 1,
+        1 => capped(a) as u32 + 2,
+        2 => capped(a) as u32 + 6,
+        3 => 10,
+        4 => 11,
+        5 => a as u32 + 13,
+        9 => 12,
+        _ => 0,
+    }
+}
+
+// Step 1's comparison.
+fn compare(m: &[u16], c: Counts, x: TypeId, y: TypeId) -> Reply
+    ensures { λ r. ⌜ Compared (now (m .entry)) c x y r ⌝ }
+{
+    let h = types::head(m, c, x);
+    let a = types::number(m, c, x);
+    let i = base_code(h, a);
+    let k = types::head(m, c, y);
+    let b = types::number(m, c, y);
+    let j = base_code(k, b);
+    if i == 0 {
+        return Reply::Mismatch;
+    }
+    if i == j {
+        return Reply::Success;
+    }
+    Reply::Mismatch
+}
+
+// ── the search for a variable inside a row ──
+
+enum Found {
+    Free,
+    Ring,
+    Inside,
+    Lost,
+}
+
+enum Grown {
+    Hit,
+    Tail(usize),
+}
+
+// The queue of a search: cell y of the first 4,622 is 1 once the row y, of n, is queued, and the rows stand from 4622 on, as they came.
+fn push(q: &mut [u16; 9244], n: u16, tail: usize, y: TypeId) -> usize
+    ensures { λ r. ⌜ queue (now (q .exit)) r ≡ pushF n (queue (now (q .entry)) tail) (y .0) ⌝ }
+{
+    let x = y.0;
+    let i = x as usize;
+    if n <= x {
+        return tail;
+    }
+    if 4622 <= i {
+        return tail;
+    }
+    if q[i] == 0 {
+        if 4622 <= tail {
+            return tail;
+        }
+        q[i] = 1;
+        q[4622 + tail] = x;
+        return tail + 1;
+    }
+    tail
+}
+
+fn push_inputs(q: &mut [u16; 9244], m: &[u16], n: u16, r: InputRange, tail: usize) -> usize
+    ensures { λ t. ⌜ queue (now (q .exit)) t ≡ pushAll n (queue (now (q .entry)) tail) (inputsFrom (now (m .entry)) (r .first) (r .count)) ⌝ }
+{
+    let mut t = tail;
+    let mut f = r.first as u32;
+    let mut k = r.count;
+    while 0 < k {
+        let y = types::input(m, f);
+        t = push(q, n, t, y);
+        f += 1;
+        k -= 1;
+    }
+    t
+}
+
+// What a row other than a variable is made of goes into the queue.
+fn push_parts(q: &mut [u16; 9244], m: &[u16], c: Counts, x: TypeId, tail: usize) -> usize
+    ensures { λ t. ⌜ queue (now (q .exit)) t ≡ pushAll (c .types) (queue (now (q .entry)) tail) (parts (now (m .entry)) c x) ⌝ }
+{
+    let n = c.types;
+    let h = types::head(m, c, x);
+    match h {
+        6 | 13 => {
+            let o = types::output(m, c, x);
+            let t = push(q, n, tail, o);
+            let r = types::inputs(m, c, x);
+            push_inputs(q, m, n, r, t)
+        }
+        8 | 14 => {
+            let e = types::number(m, c, x);
+            push(q, n, tail, TypeId(e))
+        }
+        _ => tail,
+    }
+}
+
+// A row of the queue: it is the variable, or where it leads is queued.
+fn visit(q: &mut [u16; 9244], m: &[u16], c: Counts, v: VarId, x: TypeId, tail: usize) -> Grown
+    ensures { λ r. ⌜ Visited (now (m .entry)) c v x (now (q .entry)) tail (now (q .exit)) r ⌝ }
+{
+    let h = types::head(m, c, x);
+    if h == 12 {
+        let u = types::number(m, c, x);
+        let w = v.0;
+        if u == w {
+            return Grown::Hit;
+        }
+        match types::bound_to(m, c, VarId(u)) {
+            Bound::Open => {
+                return Grown::Tail(tail);
+            }
+            Bound::To(y) => {
+                let n = c.types;
+                let t = push(q, n, tail, y);
+                return Grown::Tail(t);
+            }
+        }
+    }
+    let t = push_parts(q, m, c, x, tail);
+    Grown::Tail(t)
+}
+
+// Whether the row z leads to v. Each row is visited once.
+fn reaches(m: &[u16], c: Counts, v: VarId, z: TypeId) -> bool
+    ensures { λ r. ⌜ Reached (now (m .entry)) c v z r ⌝ }
+{
+    let mut q = [0u16; 9244];
+    let n = c.types;
+    let mut tail = push(&mut q, n, 0, z);
+    let mut head: usize = 0;
+    while head < tail {
+        let x = q[4622 + head];
+        match visit(&mut q, m, c, v, TypeId(x), tail) {
+            Grown::Hit => {
+                return true;
+            }
+            Grown::Tail(t) => {
+                tail = t;
+            }
+        }
+        head += 1;
+    }
+    false
+}
+
+// Where a row leads: it is the variable; nowhere; to several rows; to one.
+enum Lead {
+    At,
+    End,
+    Parts,
+    To(TypeId),
+}
+
+fn leads_var(m: &[u16], c: Counts, v: VarId, u: VarId) -> Lead
+    ensures { λ r. ⌜ LedVar (now (m .entry)) c v u r ⌝ }
+{
+    let i = u.0;
+    let j = v.0;
+    if i == j {
+        return Lead::At;
+    }
+    match types::bound_to(m, c, u) {
+        Bound::Open => Lead::End,
+        Bound::To(y) => Lead::To(y),
+    }
+}
+
+fn leads(m: &[u16], c: Counts, v: VarId, x: TypeId) -> Lead
+    ensures { λ r. ⌜ Led (now (m .entry)) c v x r ⌝ }
+{
+    let h = types::head(m, c, x);
+    match h {
+        8 | 14 => {
+            let e = types::number(m, c, x);
+            Lead::To(TypeId(e))
+        }
+        12 => {
+            let u = types::number(m, c, x);
+            leads_var(m, c, v, VarId(u))
+        }
+        6 | 13 => Lead::Parts,
+        _ => Lead::End,
+    }
+}
+
+// Whether the row z leads to v: along elements and bindings one by one, and from a function or a lambda through each part.
+fn stands_in(m: &[u16], c: Counts, v: VarId, z: TypeId) -> bool
+    ensures { λ r. ⌜ Stands (now (m .entry)) c v z r ⌝ }
+{
+    let mut x = z;
+    let mut n = c.types;
+    while 0 < n {
+        match leads(m, c, v, x) {
+            Lead::At => {
+                return true;
+            }
+            Lead::End => {
+                return false;
+            }
+            Lead::Parts => {
+                return reaches(m, c, v, x);
+            }
+            Lead::To(y) => {
+                x = y;
+            }
+        }
+        n -= 1;
+    }
+    reaches(m, c, v, x)
+}
+
+// Where v stands in what the row z leads to: bindings are followed, variable by variable, to their end.
+fn seek(m: &[u16], c: Counts, v: VarId, z: TypeId) -> Found
+    ensures { λ r. ⌜ Sought (now (m .entry)) c v z r ⌝ }
+{
+    let mut x = z;
+    let mut n = c.types as u32 + 1;
+    while 0 < n {
+        let h = types::head(m, c, x);
+        if h == 12 {
+            let u = types::number(m, c, x);
+            match leads_var(m, c, v, VarId(u)) {
+                Lead::At => {
+                    return Found::Ring;
+                }
+                Lead::End => {
+                    return Found::Free;
+                }
+                Lead::Parts => {
+                    return Found::Free;
+                }
+                Lead::To(y) => {
+                    x = y;
+                }
+            }
+        } else {
+            if stands_in(m, c, v, x) {
+                return Found::Inside;
+            }
+            return Found::Free;
+        }
+        n -= 1;
+    }
+    Found::Lost
+}
+
+// ── one step ──
+
+// What a step leaves: an answer, one pair of rows, or the parts of two rows.
+enum Next {
+    Done(Reply),
+    On(TypeId, TypeId),
+    Into(TypeId, TypeId),
+}
+
+// An open variable against a row: it is bound, unless it stands there.
+fn settle(m: &mut [u16], c: Counts, v: VarId, z: TypeId) -> Reply
+    ensures { λ r. ⌜ Settled (now (m .entry)) c v z (now (m .exit)) r ⌝ }
+{
+    match seek(m, c, v, z) {
+        Found::Free => {
+            types::bind(m, c, v, z);
+            Reply::Success
+        }
+        Found::Ring => Reply::Success,
+        Found::Inside => Reply::Refused12,
+        Found::Lost => Reply::Dry,
+    }
+}
+
+// A bound variable: its binding is expected against the other side.
+fn chase(m: &mut [u16], c: Counts, v: VarId, z: TypeId) -> Next
+    ensures { λ r. ⌜ Chased (now (m .entry)) c v z (now (m .exit)) r ⌝ }
+{
+    match types::bound_to(m, c, v) {
+        Bound::Open => {
+            let a = settle(m, c, v, z);
+            Next::Done(a)
+        }
+        Bound::To(x) => Next::On(x, z),
+    }
+}
+
+// A marked variable against another row: the mark is passed on to a variable, and else asks for Int.
+fn heed(m: &mut [u16], c: Counts, v: VarId, z: TypeId) -> Next
+    ensures { λ r. ⌜ Heeded (now (m .entry)) c v z (now (m .exit)) r ⌝ }
+{
+    if signed(m, c, z) {
+        let h = types::head(m, c, z);
+        if h == 12 {
+            let u = types::number(m, c, z);
+            types::mark(m, c, VarId(u));
+            return chase(m, c, v, z);
+        }
+        return chase(m, c, v, z);
+    }
+    Next::Done(Reply::Refused13)
+}
+
+// A variable against a row of its kind.
+fn meet(m: &mut [u16], c: Counts, v: VarId, z: TypeId) -> Next
+    ensures { λ r. ⌜ Met (now (m .entry)) c v z (now (m .exit)) r ⌝ }
+{
+    if same_var(m, c, v, z) {
+        return Next::Done(Reply::Success);
+    }
+    if types::is_marked(m, c, v) {
+        return heed(m, c, v, z);
+    }
+    chase(m, c, v, z)
+}
+
+// Step 3: the row x, if it is a variable's, against the row z.
+fn variable(m: &mut [u16], c: Counts, x: TypeId, z: TypeId) -> Next
+    ensures { λ r. ⌜ Varied (now (m .entry)) c x z (now (m .exit)) r ⌝ }
+{
+    let h = types::head(m, c, x);
+    if h == 12 {
+        let u = types::number(m, c, x);
+        let k = types::kind_of(m, c, VarId(u));
+        let l = class(m, c, z);
+        if kind_test(k, l) {
+            return meet(m, c, VarId(u), z);
+        }
+        let a = cause_of(m, c, z);
+        return Next::Done(a);
+    }
+    Next::Done(Reply::Mismatch)
+}
+
+// Step 2, or step 4 with the function first.
+fn down(m: &[u16], c: Counts, x: TypeId, y: TypeId) -> Next
+    ensures { λ r. ⌜ r ≡ downTo (now (m .entry)) c x y ⌝ }
+{
+    let h = types::head(m, c, x);
+    let k = types::head(m, c, y);
+    if both(h, 8, k, 8) {
+        let a = types::number(m, c, x);
+        let b = types::number(m, c, y);
+        return Next::On(TypeId(a), TypeId(b));
+    }
+    Next::Into(x, y)
+}
+
+// One step of unification.
+fn step(m: &mut [u16], c: Counts, x: TypeId, y: TypeId) -> Next
+    ensures { λ r. ⌜ Stepped (now (m .entry)) c x y (now (m .exit)) r ⌝ }
+{
+    let h = types::head(m, c, x);
+    let k = types::head(m, c, y);
+    match choose(h, k) {
+        Decision::Same => Next::Done(Reply::Success),
+        Decision::Compare => {
+            let a = compare(m, c, x, y);
+            Next::Done(a)
+        }
+        Decision::Left => variable(m, c, x, y),
+        Decision::Right => variable(m, c, y, x),
+        Decision::Down => down(m, c, x, y),
+        Decision::Swap => Next::Into(y, x),
+        Decision::Differ => Next::Done(Reply::Mismatch),
+    }
+}
+
+// ── unification ──
+
+fn is_success(a: Reply) -> bool
+    ensures { λ r. ⌜ r ≡ isSuccess a ⌝ }
+{
+    match a {
+        Reply::Success => true,
+        Reply::Mismatch => false,
+        Reply::KindOrder => false,
+        Reply::Refused12 => false,
+        Reply::Refused13 => false,
+        Reply::Dry => false,
+    }
+}
+
+// The inputs in order, until one does not go through.
+fn each(m: &mut [u16], c: Counts, first: u16, second: u16, count: u16, n: u64) -> Reply
+    ensures { λ r. ⌜ Eached (now (m .entry)) c first second count n (now (m .exit)) r ⌝ }
+{
+    let mut f = first as u32;
+    let mut g = second as u32;
+    let mut k = count;
+    while 0 < k {
+        let x = types::input(m, f);
+        let y = types::input(m, g);
+        let a = uni(m, c, x, y, n);
+        if is_success(a) {
+            f += 1;
+            g += 1;
+            k -= 1;
+        } else {
+            return a;
+        }
+    }
+    Reply::Success
+}
+
+// The parts of the row x against those of y, functions or lambdas: outputs, then lengths, then inputs.
+fn into(m: &mut [u16], c: Counts, x: TypeId, y: TypeId, n: u64) -> Reply
+    ensures { λ r. ⌜ Entered (now (m .entry)) c x y n (now (m .exit)) r ⌝ }
+{
+    let o = types::output(m, c, x);
+    let p = types::output(m, c, y);
+    let r = types::inputs(m, c, x);
+    let s = types::inputs(m, c, y);
+    let a = uni(m, c, o, p, n);
+    if is_success(a) {
+        let k = r.count;
+        let l = s.count;
+        if k == l {
+            let f = r.first;
+            let g = s.first;
+            return each(m, c, f, g, k, n);
+        }
+        return Reply::Mismatch;
+    }
+    a
+}
+
+// Along arrays and bindings, step by step; n bounds the steps.
+fn uni(m: &mut [u16], c: Counts, x: TypeId, y: TypeId, n: u64) -> Reply
+    ensures { λ r. ⌜ Unified (now (m .entry)) c x y n (now (m .exit)) r ⌝ }
+{
+    let mut a = x;
+    let mut b = y;
+    let mut k = n;
+    while 0 < k {
+        k -= 1;
+        match step(m, c, a, b) {
+            Next::Done(r) => {
+                return r;
+            }
+            Next::On(d, e) => {
+                a = d;
+                b = e;
+            }
+            Next::Into(d, e) => {
+                return into(m, c, d, e, k);
+            }
+        }
+    }
+    Reply::Dry
+}
+
+fn answer_of(a: Reply) -> Answer
+    ensures { λ r. ⌜ r ≡ answerOf a ⌝ }
+{
+    match a {
+        Reply::Success => Answer::Success,
+        Reply::Mismatch => Answer::Mismatch(Cause::Other),
+        Reply::KindOrder => Answer::Mismatch(Cause::KindOrder),
+        Reply::Refused12 => Answer::Refused12,
+        Reply::Refused13 => Answer::Refused13,
+        Reply::Dry => Answer::Refused12,
+    }
+}
+
+// The counts, if the memory has its length and they do not pass the limits; else there are no rows and no variables.
+fn held(m: &[u16], c: Counts) -> Counts
+    ensures { λ r. ⌜ r ≡ heldIn (now (m .entry)) c ⌝ }
+{
+    let t = c.types;
+    let v = c.vars;
+    if m.len() < types::MEMORY {
+        return Counts {
+            types: 0,
+            vars: 0,
+            inputs: 0,
+        };
+    }
+    if types::MOST_TYPES < t {
+        return Counts {
+            types: 0,
+            vars: 0,
+            inputs: 0,
+        };
+    }
+    if types::MOST_VARS < v {
+        return Counts {
+            types: 0,
+            vars: 0,
+            inputs: 0,
+        };
+    }
+    c
+}
+
+// A row's number, 0 for what is no row.
+fn clip(c: Counts, x: TypeId) -> TypeId
+    ensures { λ r. ⌜ r .0 ≡ clip·T (c .types) (x .0) ⌝ }
+{
+    let i = x.0;
+    let n = c.types;
+    if i < n { x } else { TypeId(0) }
+}
+
+// The equation of the rows x, expected, and y, got; what is no row counts as row 0.
+pub fn unify(m: &mut [u16], c: Counts, x: TypeId, y: TypeId) -> Answer
+    ensures { λ r. ⌜ Solved (now (m .entry)) c x y (now (m .exit)) r ⌝ }
+{
+    let d = held(m, c);
+    let e = clip(d, x);
+    let g = clip(d, y);
+    let t = d.types as u64;
+    let v = d.vars as u64;
+    let n = v * (t + t + 1) + (t + t) + 1;
+    let a = uni(m, d, e, g, n);
+    answer_of(a)
+}
