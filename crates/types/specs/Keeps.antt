@@ -430,7 +430,7 @@ module _ {m : List ℕ} {c : Counts} (laid : Laid m c) (u : List ℕ) (high : (j
   low-laid : Laid u c
   low-laid = kept-laid laid u high-same (λ j l r. high j (omega arith)) size (c .inputs) (omega arith) (laid .inputs)
 
-  low-sound : Sound m c → kindsOf u (c .vars) ≡ kindsOf m (c .vars) → Good (rowsOf m (c .types)) (kindsOf m (c .vars)) (bindsOf u (c .vars)) → Sound u c
+  pub low-sound : Sound m c → kindsOf u (c .vars) ≡ kindsOf m (c .vars) → Good (rowsOf m (c .types)) (kindsOf m (c .vars)) (bindsOf u (c .vars)) → Sound u c
   low-sound = kept-sound laid u high-same (λ j l r. high j (omega arith)) size (c .inputs) (omega arith) (laid .inputs)
 
 -- ── an input is pushed ──

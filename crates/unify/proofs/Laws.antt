@@ -22,7 +22,8 @@ use Rattle.unify.specs.Step.{downTo}
 use Rattle.unify.specs.declared.Reply.{Reply}
 use Rattle.unify.specs.declared.Reply.the-variants.{Mismatch, KindOrder, Success}
 use Rattle.unify.specs.Leaf.{kindK, outK, Classed, Caused, Signed, SameVar, Compared, code}
-use Rattle.unify.specs.Bridge.{kind-at, var-row, no-var-row, signed-row, fits-row, alike-row}
+use Rattle.types.specs.Tables.{kind-at}
+use Rattle.unify.specs.Bridge.{var-row, no-var-row, signed-row, fits-row, alike-row}
 
 -- ── kinds ──
 

@@ -31,7 +31,8 @@ use Rattle.unify.specs.declared.Lead.{Lead}
 use Rattle.unify.specs.declared.Lead.the-variants.{At, End, Parts, To}
 use Rattle.unify.specs.Leaf.{rowsIn, rowIn}
 use Rattle.unify.specs.Search.{Queue, queue, pushF, pushAll, parts, bindsIn, nextIn, leadsIn, Visited, ReachedK, Reached, LedVar, Led, Stands, foundK, seekIn, Sought}
-use Rattle.unify.specs.Bridge.{row-at, bound-at, length-rows, var-row, no-var-row, kids-row}
+use Rattle.types.specs.Tables.{bound-at, length-rows}
+use Rattle.unify.specs.Bridge.{var-row, no-var-row, kids-row}
 
 -- ── pushing ──
 

@@ -33,7 +33,8 @@ use Rattle.unify.specs.declared.Found.the-variants.{Free, Ring, Inside, 
 use Rattle.unify.specs.Leaf.{rowsIn, kindsIn, memIn, rowIn, kindK, outK, stepK, Classed, Caused, Signed, SameVar, Compared}
 use Rattle.unify.specs.Search.{seekIn, Sought, foundK, parts}
 use Rattle.unify.specs.Step.{Frame, Rec, resume, Parted, Enterable, Went, Settled, Chased, Heeded, Met, Varied, downTo, Stepped}
-use Rattle.unify.specs.Bridge.{row-at, bound-at, mark-at, length-rows, head-row, var-row, no-var-row, kids-row, row-by}
+use Rattle.types.specs.Tables.{bound-at, mark-at}
+use Rattle.unify.specs.Bridge.{head-row, var-row, no-var-row, kids-row}
 use Rattle.unify.specs.Frames.{frame-same, frame-trans, held-on, rows-same, kinds-same, marking-frame, marking-mem, binding-frame, binding-mem}
 use Rattle.unify.proofs.Laws.{kind-in}
 

@@ -18,7 +18,7 @@ use Rattle.types.specs.declared.InputRange.{InputRange}
 use Rattle.types.specs.Memory.{pick, counts, cell, inputs-at, outputAt, firstAt, countAt, inputsFrom, memOf, Held}
 use Rattle.theory.specs.Program.{clip, fuel, solve}
 use Rattle.unify.specs.declared.Answer.{Answer}
-use Rattle.unify.specs.Bridge.{length-rows, length-binds}
+use Rattle.types.specs.Tables.{length-rows, length-binds}
 use Rattle.unify.specs.declared.Reply.{Reply}
 use Rattle.unify.specs.declared.Reply.the-variants.{Success, Mismatch, KindOrder, Refused12, Refused13, Dry}
 use Rattle.unify.specs.declared.Next.{Next}

@@ -15,70 +15,12 @@ use Rattle.theory.specs.Rules.{Kind as KindT}
 use Rattle.types.specs.declared.Counts.{Counts}
 use Rattle.types.specs.declared.TypeId.{TypeId}
 use Rattle.types.specs.Memory.{pick, tab, headOf, headAt, numberAt, outputAt, firstAt, countAt, inputsFrom, widthOf, shapeOf, shapeAt, rowsOf, kindAt, kindsOf, bindingAt, bindsOf, markAt, marksOf, cell, rows-at}
+use Rattle.types.specs.Tables.{row-at}
 use Rattle.unify.specs.Leaf.{cap, code}
 use Rattle.unify.specs.Search.{parts}
 
-module _ {A : Type 0} where
-  pub length-tab : (f : ℕ → A) (n : ℕ) → length (tab f n) ≡ n
-  length-tab f zero = refl
-  length-tab f (suc n) = ap suc (length-tab (λ i. f (suc i)) n)
-
-  pub getD-tab : (f : ℕ → A) (n i : ℕ) (d : A) → i < n → getD (tab f n) i d ≡ f i
-  getD-tab f zero i d h = absurd (omega arith)
-  getD-tab f (suc n) zero d h = refl
-  getD-tab f (suc n) (suc i) d h = getD-tab (λ i. f (suc i)) n i d (omega arith)
-
-  pub tab-out : (f : ℕ → A) (n i : ℕ) (d : A) → n ≤ i → getD (tab f n) i d ≡ d
-  tab-out f n i d h = List·getD-eq-default (tab f n) d (rw (length-tab f n) h)
-
-  pub tab-ext : (f g : ℕ → A) (n : ℕ) → ((i : ℕ) → i < n → g i ≡ f i) → tab g n ≡ tab f n
-  tab-ext f g zero h = refl
-  tab-ext f g (suc n) h = rw (h 0 (omega arith), tab-ext (λ i. f (suc i)) (λ i. g (suc i)) n (λ i k. h (suc i) (omega arith)))
-
-  pub tab-set : (f g : ℕ → A) (n v : ℕ) (a : A) → ((i : ℕ) → i < n → i ≢ v → g i ≡ f i) → (v < n → g v ≡ a) → tab g n ≡ set (tab f n) v a
-  tab-set f g zero v a h e = refl
-  tab-set f g (suc n) zero a h e = rw (e (omega arith), tab-ext (λ i. f (suc i)) (λ i. g (suc i)) n (λ i k. h (suc i) (omega arith) (λ q. omega arith)))
-  tab-set f g (suc n) (suc v) a h e = rw (h 0 (omega arith) (λ q. omega arith), tab-set (λ i. f (suc i)) (λ i. g (suc i)) n v a (λ i k q. h (suc i) (omega arith) (λ r. q (omega arith))) (λ k. e (omega arith)))
-
-  -- a table read at any place is the function, where that is the default past the end
-  pub tab-at : (f : ℕ → A) (n i : ℕ) (d : A) → (n ≤ i → f i ≡ d) → getD (tab f n) i d ≡ f i
-  tab-at f n i d h = by (decLt i n)
-    where
-      by : Dec (i < n) → getD (tab f n) i d ≡ f i
-      by (yes k) = getD-tab f n i d k
-      by (no k) = let l : n ≤ i = omega arith in tab-out f n i d l ∙ sym (h l)
-
--- ── rows, kinds, bindings and marks by number ──
-
 module _ (m : List ℕ) (n : ℕ) where
-  shape-past : (x : ℕ) → n ≤ x → shapeAt m n x ≡ base nil
-  unfolding shapeAt headAt shapeOf
-  shape-past x h = rw (le-leb n x h)
-
-  pub row-at : (x : ℕ) → row (rowsOf m n) x ≡ shapeAt m n x
-  unfolding rowsOf
-  row-at x = tab-at (shapeAt m n) n x (base nil) (shape-past x)
-
-  pub kind-at : (v : ℕ) → kind (kindsOf m n) v ≡ kindAt m n v
-  unfolding kindsOf kindAt
-  kind-at v = tab-at (kindAt m n) n v regular (λ h. rw (le-leb n v h))
-
-  pub bound-at : (v : ℕ) → bound (bindsOf m n) v ≡ bindingAt m n v
-  unfolding bindsOf bindingAt
-  bound-at v = tab-at (bindingAt m n) n v none (λ h. rw (le-leb n v h))
-
-  pub mark-at : (v : ℕ) → getD (marksOf m n) v false ≡ markAt m n v
-  unfolding marksOf markAt
-  mark-at v = tab-at (markAt m n) n v false (λ h. rw (le-leb n v h))
-
-  pub length-rows : length (rowsOf m n) ≡ n
-  unfolding rowsOf
-  length-rows = length-tab (shapeAt m n) n
-
-  pub length-binds : length (bindsOf m n) ≡ n
-  unfolding bindsOf
-  length-binds = length-tab (bindingAt m n) n
-
+  -- a head is one of fifteen
   pub head-low : (x : ℕ) → headAt m n x < 15
   unfolding headAt
   head-low x = by (leb n x) (decLt (cell m (rows-at + x * 5)) 15)

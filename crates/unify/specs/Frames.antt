@@ -18,7 +18,8 @@ use Rattle.types.specs.Memory.{pick, tab, cell, rows-at, inputs-at, rowCell, he
 use Rattle.types.specs.Made.{marking, binding}
 use Rattle.unify.specs.Leaf.{rowsIn, kindsIn, memIn}
 use Rattle.unify.specs.Step.{Frame}
-use Rattle.unify.specs.Bridge.{tab-ext, tab-set, length-tab}
+use Rattle.types.specs.Tables.{tab-ext}
+use Rattle.types.specs.Keeps.{mark-binds, mark-marks, bind-mem}
 
 pub frame-same : (m : List ℕ) (c : Counts) → Frame m c m
 frame-same m c = record { size = refl; same = λ i h. refl; unbound = λ v e. (refl, refl); unmarked = λ v e. refl }
@@ -130,18 +131,6 @@ module _ (m : List ℕ) (c : Counts) (held : Held m c) (v : ℕ) where
         by u e (yes q) = let g = rw q at e in let h : _≡_ {A = Bool} true false = sym marked-now ∙ g in absurd (let y : _≡_ {A = ℕ} 0 1 = cc in omega arith)
         by u e (no d) = mark-other (u * 5 + 4) (λ q. d (omega arith))
 
-    mark-binds : bindsOf now-marked (c .vars) ≡ bindsOf m (c .vars)
-    unfolding bindsOf
-    mark-binds = tab-ext (bindingAt m (c .vars)) (bindingAt now-marked (c .vars)) (c .vars) (λ u h. same-binding m now-marked (c .vars) u (mark-other (u * 5 + 2) (λ q. omega arith), mark-other (u * 5 + 3) (λ q. omega arith)))
-
-    mark-marks : marksOf now-marked (c .vars) ≡ set (marksOf m (c .vars)) v true
-    unfolding marksOf
-    mark-marks = tab-set (markAt m (c .vars)) (markAt now-marked (c .vars)) (c .vars) v true (λ u h d. same-mark m now-marked (c .vars) u (mark-other (u * 5 + 4) (λ q. d (omega arith)))) (λ h. marked-now)
-
-  out-marks : c .vars ≤ v → set (marksOf m (c .vars)) v true ≡ marksOf m (c .vars)
-  unfolding marksOf
-  out-marks h = set-out (tab (markAt m (c .vars)) (c .vars)) v true (rw (length-tab (markAt m (c .vars)) (c .vars)) h)
-
   not-marking : c .vars ≤ v → marking m (c .vars) v ≡ m
   unfolding marking
   not-marking h = rw (le-ltb v (c .vars) h)
@@ -156,11 +145,7 @@ module _ (m : List ℕ) (c : Counts) (held : Held m c) (v : ℕ) where
   -- a mark is set in the tables
   pub marking-mem : memOf (marking m (c .vars) v) (c .vars) ≡ record { binds = bindsOf m (c .vars); marks = set (marksOf m (c .vars)) v true }
   unfolding memOf
-  marking-mem = by (decLt v (c .vars))
-    where
-      by : Dec (v < c .vars) → memOf (marking m (c .vars) v) (c .vars) ≡ record { binds = bindsOf m (c .vars); marks = set (marksOf m (c .vars)) v true }
-      by (yes h) = rw (is-marked h, mark-binds h, mark-marks h)
-      by (no h) = let k : c .vars ≤ v = omega arith in rw (not-marking k, out-marks k)
+  marking-mem = rw (mark-binds held v, mark-marks held v)
 
 -- ── a binding ──
 
@@ -196,18 +181,6 @@ module _ (m : List ℕ) (c : Counts) (held : Held m c) (v z : ℕ) where
         by u e (yes q) = let g = rw q at e in let h : some z ≡ none = sym bound-now ∙ g in absurd (let y : _≡_ {A = ℕ} 0 1 = cc in omega arith)
         by u e (no d) = (bind-other (u * 5 + 2) (λ q. d (omega arith)) (λ q. omega arith), bind-other (u * 5 + 3) (λ q. omega arith) (λ q. d (omega arith)))
 
-    bind-binds : bindsOf now-bound (c .vars) ≡ set (bindsOf m (c .vars)) v (some z)
-    unfolding bindsOf
-    bind-binds = tab-set (bindingAt m (c .vars)) (bindingAt now-bound (c .vars)) (c .vars) v (some z) (λ u h d. same-binding m now-bound (c .vars) u (bind-other (u * 5 + 2) (λ q. d (omega arith)) (λ q. omega arith), bind-other (u * 5 + 3) (λ q. omega arith) (λ q. d (omega arith)))) (λ h. bound-now)
-
-    bind-marks : marksOf now-bound (c .vars) ≡ marksOf m (c .vars)
-    unfolding marksOf
-    bind-marks = tab-ext (markAt m (c .vars)) (markAt now-bound (c .vars)) (c .vars) (λ u h. same-mark m now-bound (c .vars) u (bind-other (u * 5 + 4) (λ q. omega arith) (λ q. omega arith)))
-
-  out-binds : c .vars ≤ v → set (bindsOf m (c .vars)) v (some z) ≡ bindsOf m (c .vars)
-  unfolding bindsOf
-  out-binds h = set-out (tab (bindingAt m (c .vars)) (c .vars)) v (some z) (rw (length-tab (bindingAt m (c .vars)) (c .vars)) h)
-
   not-binding : c .vars ≤ v → binding m (c .vars) v z ≡ m
   unfolding binding
   not-binding h = rw (le-ltb v (c .vars) h)
@@ -221,9 +194,4 @@ module _ (m : List ℕ) (c : Counts) (held : Held m c) (v z : ℕ) where
 
   -- a variable is bound in the tables
   pub binding-mem : memOf (binding m (c .vars) v z) (c .vars) ≡ bind (memOf m (c .vars)) v z
-  unfolding memOf bind
-  binding-mem = by (decLt v (c .vars))
-    where
-      by : Dec (v < c .vars) → memOf (binding m (c .vars) v z) (c .vars) ≡ bind (memOf m (c .vars)) v z
-      by (yes h) = rw (is-bound h, bind-binds h, bind-marks h)
-      by (no h) = let k : c .vars ≤ v = omega arith in rw (not-binding k, out-binds k)
+  binding-mem = bind-mem held v z

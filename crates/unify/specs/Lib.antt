@@ -4,3 +4,4 @@ pub mod Step
 pub mod Unify
 pub mod Bridge
 pub mod Frames
+pub mod Keeps
