@@ -5,3 +5,5 @@ pub mod Unify
 pub mod Bridge
 pub mod Frames
 pub mod Keeps
+pub mod Meaning
+pub mod Follow

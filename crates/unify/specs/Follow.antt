@@ -1,0 +1,78 @@
+-- The end of a row's bindings: in sound tables `follow` ends at a row that is no bound variable, and every agreeing way gives both one type.
+use mathlib.Core.Path.{_≡_, refl, sym, ap, _∙_}
+use mathlib.Core.Logic.{_≢_}
+use mathlib.Core.List.{List, _∷_, []}
+use mathlib.Core.Option.{Option, none, some}
+use mathlib.Core.Bool.{Bool, true, false}
+use Prim.Native.Nat.{ℕ, suc, zero, _+_, _<_, _≤_}
+use native.Mathlib.Omega.{arith}
+use native.Mathlib.Decide.{ℕ-discrete}
+use lib.Dec.{eqb}
+use borrow.Author.Tests.{eq-eqb, ne-eqb}
+use Rattle.theory.specs.Rules.{var, row, bound, next, optList}
+use Rattle.theory.specs.Ways.{Way, den, Agrees}
+use Rattle.theory.specs.Meaning.{den-var}
+use Rattle.types.specs.declared.Counts.{Counts}
+use Rattle.types.specs.declared.TypeId.{TypeId}
+use Rattle.types.specs.declared.Bound.{Bound}
+use Rattle.types.specs.declared.Bound.the-variants.{To, Open}
+use Rattle.types.specs.Memory.{pick, headAt, numberAt, bindingAt}
+use Rattle.types.specs.View.{type, variable, boundCode, boundIn, onwardIn, endBy, endFrom, endIn}
+use Rattle.types.specs.Tables.{bound-at, length-rows}
+use Rattle.types.specs.Sound.{Sound}
+use Rattle.unify.specs.Leaf.{rowsIn, kindsIn}
+use Rattle.unify.specs.Search.{bindsIn}
+use Rattle.unify.specs.Bridge.{var-row}
+
+-- a row that is bound is that of a variable, and its binding stands in the tables
+pub record Onward (m : List ℕ) (c : Counts) (x y : ℕ) : Type 0 where
+  pub var-of : ℕ
+  pub is-var : row (rowsIn m c) x ≡ var var-of
+  pub bound-to : bound (bindsIn m c) var-of ≡ some y
+
+pub onward-bound : (m : List ℕ) (c : Counts) (x : ℕ) (y : TypeId) → onwardIn m c (type x) ≡ To y → Onward m c x (y .0)
+unfolding onwardIn boundIn
+onward-bound m c x y e = by (ℕ-discrete (headAt m (c .types) x) 12)
+  where
+    code : (o : Option ℕ) → boundCode o ≡ To y → o ≡ some (y .0)
+    code none k = cc
+    code (some z) k = let g : type z ≡ y = cc in ap (λ (t : TypeId). some (t .0)) g
+
+    by : Dec (headAt m (c .types) x ≡ 12) → Onward m c x (y .0)
+    by (yes h) =
+        record
+          { var-of = numberAt m (c .types) x
+          ; is-var = var-row m (c .types) x h
+          ; bound-to = bound-at m (c .vars) (numberAt m (c .types) x) ∙ code (bindingAt m (c .vars) (numberAt m (c .types) x)) (rw (eq-eqb (headAt m (c .types) x) 12 h) at e)
+          }
+    by (no n) = let g : Open ≡ To y = rw (ne-eqb (headAt m (c .types) x) 12 n) at e in absurd (let z : _≡_ {A = ℕ} 0 1 = cc in omega arith)
+
+module _ (m : List ℕ) (c : Counts) (sound : Sound m c) where
+  falls-on : (x : ℕ) (y : TypeId) → onwardIn m c (type x) ≡ To y → sound .good .rank (y .0) < sound .good .rank x
+  falls-on x y e = let o = onward-bound m c x y e in let f = sound .good .falls x in let g = rw (o .is-var, o .bound-to) at f in g .0
+
+  ends : (n x : ℕ) → sound .good .rank x < n → onwardIn m c (type (endFrom m c n x)) ≡ Open
+  ends zero x h = absurd (omega arith)
+  ends (suc n) x h = by (λ y e. ends n (y .0) (omega (arith, falls-on x y e))) (onwardIn m c (type x)) refl
+    where
+      by : ((y : TypeId) → onwardIn m c (type x) ≡ To y → onwardIn m c (type (endFrom m c n (y .0))) ≡ Open) → (b : Bound) → onwardIn m c (type x) ≡ b → onwardIn m c (type (endBy (endFrom m c n) x b)) ≡ Open
+      by ih Open e = e
+      by ih (To y) e = ih y e
+
+  -- `follow` ends at a row that is no bound variable
+  pub follow-ends : (x : ℕ) → onwardIn m c (type (endIn m c x)) ≡ Open
+  unfolding endIn
+  follow-ends x = ends (c .types + 1) x (omega (arith, sound .good .top x, length-rows m (c .types)))
+
+  means : (f : Way) → Agrees (rowsIn m c) (bindsIn m c) f → (n x : ℕ) → sound .good .rank x < n → den (rowsIn m c) f (endFrom m c n x) ≡ den (rowsIn m c) f x
+  means f a zero x h = absurd (omega arith)
+  means f a (suc n) x h = by (λ y e. means f a n (y .0) (omega (arith, falls-on x y e))) (onwardIn m c (type x)) refl
+    where
+      by : ((y : TypeId) → onwardIn m c (type x) ≡ To y → den (rowsIn m c) f (endFrom m c n (y .0)) ≡ den (rowsIn m c) f (y .0)) → (b : Bound) → onwardIn m c (type x) ≡ b → den (rowsIn m c) f (endBy (endFrom m c n) x b) ≡ den (rowsIn m c) f x
+      by ih Open e = refl
+      by ih (To y) e = let o = onward-bound m c x y e in ih y e ∙ sym (den-var (rowsIn m c) (sound .lower) f x (o .var-of) (o .is-var) ∙ a (o .var-of) (y .0) (o .bound-to))
+
+  -- under a way that agrees with the bindings, a row and the end of its bindings become the same type
+  pub follow-same : (f : Way) → Agrees (rowsIn m c) (bindsIn m c) f → (x : ℕ) → den (rowsIn m c) f (endIn m c x) ≡ den (rowsIn m c) f x
+  unfolding endIn
+  follow-same f a x = means f a (c .types + 1) x (omega (arith, sound .good .top x, length-rows m (c .types)))
