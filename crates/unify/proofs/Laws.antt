@@ -10,19 +10,19 @@ use lib.Dec.{eqb}
 use borrow.Author.Tests.{eq-eqb, ne-eqb, lt-ltb, le-ltb}
 use Rattle.theory.specs.Rules.{Step, same, compare, left, right, down, swap, differ, compared, choose, success, mismatch, kindOrder, var, row, asVar, kind, fits, kindFits, isRegular, regular, integer, floating}
 use Rattle.theory.specs.Rules.{Kind as KindT}
-use Rattle.types.specs.declared.Counts.{Counts}
-use Rattle.types.specs.declared.TypeId.{TypeId}
-use Rattle.types.specs.declared.VarId.{VarId}
-use Rattle.types.specs.declared.Kind.{Kind}
-use Rattle.types.specs.declared.Kind.the-variants.{Regular, Integer, Float}
-use Rattle.types.specs.Memory.{pick, headAt, numberAt, varCell, kindOf, kindAt, rowsOf, kindsOf}
-use Rattle.types.specs.View.{type, variable, kindCode, kindIn}
+use Rattle.type_table.specs.declared.Counts.{Counts}
+use Rattle.type_table.specs.declared.TypeId.{TypeId}
+use Rattle.type_table.specs.declared.VarId.{VarId}
+use Rattle.type_table.specs.declared.Kind.{Kind}
+use Rattle.type_table.specs.declared.Kind.the-variants.{Regular, Integer, Float}
+use Rattle.type_table.specs.Memory.{pick, headAt, numberAt, varCell, kindOf, kindAt, rowsOf, kindsOf}
+use Rattle.type_table.specs.View.{type, variable, kindCode, kindIn}
 use Rattle.unify.specs.declared.Next.the-variants.{On, Into}
 use Rattle.unify.specs.Step.{downTo}
 use Rattle.unify.specs.declared.Reply.{Reply}
 use Rattle.unify.specs.declared.Reply.the-variants.{Mismatch, KindOrder, Success}
 use Rattle.unify.specs.Leaf.{kindK, outK, Classed, Caused, Signed, SameVar, Compared, code}
-use Rattle.types.specs.Tables.{kind-at}
+use Rattle.type_table.specs.Tables.{kind-at}
 use Rattle.unify.specs.Bridge.{var-row, no-var-row, signed-row, fits-row, alike-row}
 
 -- ── kinds ──

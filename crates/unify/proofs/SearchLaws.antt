@@ -15,14 +15,14 @@ use borrow.Author.Tests.{eq-eqb, ne-eqb, le-leb, lt-leb, leb-false}
 use Rattle.theory.specs.Rules.{row, base, nil, var, kids, asVar, bound, next, succs, optList, isSame, any, leads, leadsAt, far, seek, seekAt, seekVar, follow, iter}
 use Rattle.theory.specs.Rules.{Found as FoundT, free, ring, inside, lost}
 use Rattle.theory.specs.Basics.{All, all-map}
-use Rattle.types.specs.declared.Counts.{Counts}
-use Rattle.types.specs.declared.TypeId.{TypeId}
-use Rattle.types.specs.declared.VarId.{VarId}
-use Rattle.types.specs.declared.InputRange.{InputRange}
-use Rattle.types.specs.declared.Bound.{Bound}
-use Rattle.types.specs.declared.Bound.the-variants.{To as To·B, Open}
-use Rattle.types.specs.Memory.{pick, cell, inputs-at, headAt, numberAt, outputAt, firstAt, countAt, inputsFrom, bindingAt, rowsOf, bindsOf, Held}
-use Rattle.types.specs.View.{type, variable, boundCode, boundIn}
+use Rattle.type_table.specs.declared.Counts.{Counts}
+use Rattle.type_table.specs.declared.TypeId.{TypeId}
+use Rattle.type_table.specs.declared.VarId.{VarId}
+use Rattle.type_table.specs.declared.InputRange.{InputRange}
+use Rattle.type_table.specs.declared.Bound.{Bound}
+use Rattle.type_table.specs.declared.Bound.the-variants.{To as To·B, Open}
+use Rattle.type_table.specs.Memory.{pick, cell, inputs-at, headAt, numberAt, outputAt, firstAt, countAt, inputsFrom, bindingAt, rowsOf, bindsOf, Held}
+use Rattle.type_table.specs.View.{type, variable, boundCode, boundIn}
 use Rattle.unify.specs.declared.Found.{Found}
 use Rattle.unify.specs.declared.Found.the-variants.{Free, Ring, Inside, Lost}
 use Rattle.unify.specs.declared.Grown.{Grown}
@@ -31,7 +31,7 @@ use Rattle.unify.specs.declared.Lead.{Lead}
 use Rattle.unify.specs.declared.Lead.the-variants.{At, End, Parts, To}
 use Rattle.unify.specs.Leaf.{rowsIn, rowIn}
 use Rattle.unify.specs.Search.{Queue, queue, pushF, pushAll, parts, bindsIn, nextIn, leadsIn, Visited, ReachedK, Reached, LedVar, Led, Stands, foundK, seekIn, Sought}
-use Rattle.types.specs.Tables.{bound-at, length-rows}
+use Rattle.type_table.specs.Tables.{bound-at, length-rows}
 use Rattle.unify.specs.Bridge.{var-row, no-var-row, kids-row}
 
 -- ── pushing ──

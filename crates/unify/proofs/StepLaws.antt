@@ -13,15 +13,15 @@ use borrow.Author.Tests.{eq-eqb, ne-eqb}
 use Rattle.theory.specs.Rules.{Step, same, compare, left, right, down, swap, differ, Out, success, mismatch, kindOrder, refused12, refused13, dry, Mem, Res, Shape, var, arr, row, head, kids, asVar, kind, bound, fits, kindFits, isSame, signed, marked, passTo, pass, cause, alike, choose, compared, split, atVar, act, move, perform, each, onward, andThen, suits, other, heed, chase, settle, seek, zip}
 use Rattle.theory.specs.Rules.{Found as FoundT, free, ring, inside, lost}
 use Rattle.theory.specs.Rules.{Kind as KindT}
-use Rattle.types.specs.declared.Counts.{Counts}
-use Rattle.types.specs.declared.TypeId.{TypeId}
-use Rattle.types.specs.declared.VarId.{VarId}
-use Rattle.types.specs.declared.Kind.{Kind}
-use Rattle.types.specs.declared.Bound.{Bound}
-use Rattle.types.specs.declared.Bound.the-variants.{To as To·B, Open}
-use Rattle.types.specs.Memory.{pick, headAt, numberAt, outputAt, firstAt, countAt, inputsFrom, bindingAt, markAt, rowsOf, kindsOf, bindsOf, marksOf, memOf, Held}
-use Rattle.types.specs.Made.{marking, binding}
-use Rattle.types.specs.View.{type, variable, kindIn, boundCode, boundIn}
+use Rattle.type_table.specs.declared.Counts.{Counts}
+use Rattle.type_table.specs.declared.TypeId.{TypeId}
+use Rattle.type_table.specs.declared.VarId.{VarId}
+use Rattle.type_table.specs.declared.Kind.{Kind}
+use Rattle.type_table.specs.declared.Bound.{Bound}
+use Rattle.type_table.specs.declared.Bound.the-variants.{To as To·B, Open}
+use Rattle.type_table.specs.Memory.{pick, headAt, numberAt, outputAt, firstAt, countAt, inputsFrom, bindingAt, markAt, rowsOf, kindsOf, bindsOf, marksOf, memOf, Held}
+use Rattle.type_table.specs.Made.{marking, binding}
+use Rattle.type_table.specs.View.{type, variable, kindIn, boundCode, boundIn}
 use Rattle.unify.specs.declared.Decision.{Decision}
 use Rattle.unify.specs.declared.Decision.the-variants.{Same, Compare, Left, Right, Down, Swap, Differ}
 use Rattle.unify.specs.declared.Reply.{Reply}
@@ -33,7 +33,7 @@ use Rattle.unify.specs.declared.Found.the-variants.{Free, Ring, Inside, 
 use Rattle.unify.specs.Leaf.{rowsIn, kindsIn, memIn, rowIn, kindK, outK, stepK, Classed, Caused, Signed, SameVar, Compared}
 use Rattle.unify.specs.Search.{seekIn, Sought, foundK, parts}
 use Rattle.unify.specs.Step.{Frame, Rec, resume, Parted, Enterable, Went, Settled, Chased, Heeded, Met, Varied, downTo, Stepped}
-use Rattle.types.specs.Tables.{bound-at, mark-at}
+use Rattle.type_table.specs.Tables.{bound-at, mark-at}
 use Rattle.unify.specs.Bridge.{head-row, var-row, no-var-row, kids-row}
 use Rattle.unify.specs.Frames.{frame-same, frame-trans, held-on, rows-same, kinds-same, marking-frame, marking-mem, binding-frame, binding-mem}
 use Rattle.unify.proofs.Laws.{kind-in}

@@ -12,13 +12,13 @@ use borrow.Author.Tests.{eq-eqb, ne-eqb, lt-ltb, le-ltb}
 use native.Mathlib.Decide.{decLt}
 use native.Mathlib.Nat.{mul-le-mul-left}
 use Rattle.theory.specs.Rules.{Out, success, mismatch, kindOrder, refused12, refused13, dry, Mem, Res, Pair, row, kids, split, zip, go, perform, each, onward, andThen, move, unify}
-use Rattle.types.specs.declared.Counts.{Counts}
-use Rattle.types.specs.declared.TypeId.{TypeId}
-use Rattle.types.specs.declared.InputRange.{InputRange}
-use Rattle.types.specs.Memory.{pick, counts, cell, inputs-at, outputAt, firstAt, countAt, inputsFrom, memOf, Held}
+use Rattle.type_table.specs.declared.Counts.{Counts}
+use Rattle.type_table.specs.declared.TypeId.{TypeId}
+use Rattle.type_table.specs.declared.InputRange.{InputRange}
+use Rattle.type_table.specs.Memory.{pick, counts, cell, inputs-at, outputAt, firstAt, countAt, inputsFrom, memOf, Held}
 use Rattle.theory.specs.Program.{clip, fuel, solve}
 use Rattle.unify.specs.declared.Answer.{Answer}
-use Rattle.types.specs.Tables.{length-rows, length-binds}
+use Rattle.type_table.specs.Tables.{length-rows, length-binds}
 use Rattle.unify.specs.declared.Reply.{Reply}
 use Rattle.unify.specs.declared.Reply.the-variants.{Success, Mismatch, KindOrder, Refused12, Refused13, Dry}
 use Rattle.unify.specs.declared.Next.{Next}

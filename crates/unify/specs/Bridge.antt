@@ -12,10 +12,10 @@ use lib.Dec.{eqb, ltb, leb}
 use borrow.Author.Tests.{eq-eqb, ne-eqb, le-leb, lt-leb, lt-ltb, le-ltb}
 use Rattle.theory.specs.Rules.{Width, w8, w16, w32, w64, Base, bool, nil, float, double, uint, int, inst, Shape, base, var, arr, ref, fn, fun, lam, err, div, head, kids, asVar, row, kind, bound, fits, baseFits, kindFits, isRegular, signed, alike, isYes, base-discrete, width-discrete, regular, integer, floating}
 use Rattle.theory.specs.Rules.{Kind as KindT}
-use Rattle.types.specs.declared.Counts.{Counts}
-use Rattle.types.specs.declared.TypeId.{TypeId}
-use Rattle.types.specs.Memory.{pick, tab, headOf, headAt, numberAt, outputAt, firstAt, countAt, inputsFrom, widthOf, shapeOf, shapeAt, rowsOf, kindAt, kindsOf, bindingAt, bindsOf, markAt, marksOf, cell, rows-at}
-use Rattle.types.specs.Tables.{row-at}
+use Rattle.type_table.specs.declared.Counts.{Counts}
+use Rattle.type_table.specs.declared.TypeId.{TypeId}
+use Rattle.type_table.specs.Memory.{pick, tab, headOf, headAt, numberAt, outputAt, firstAt, countAt, inputsFrom, widthOf, shapeOf, shapeAt, rowsOf, kindAt, kindsOf, bindingAt, bindsOf, markAt, marksOf, cell, rows-at}
+use Rattle.type_table.specs.Tables.{row-at}
 use Rattle.unify.specs.Leaf.{cap, code}
 use Rattle.unify.specs.Search.{parts}
 

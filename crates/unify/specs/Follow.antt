@@ -12,14 +12,14 @@ use borrow.Author.Tests.{eq-eqb, ne-eqb}
 use Rattle.theory.specs.Rules.{var, row, bound, next, optList}
 use Rattle.theory.specs.Ways.{Way, den, Agrees}
 use Rattle.theory.specs.Meaning.{den-var}
-use Rattle.types.specs.declared.Counts.{Counts}
-use Rattle.types.specs.declared.TypeId.{TypeId}
-use Rattle.types.specs.declared.Bound.{Bound}
-use Rattle.types.specs.declared.Bound.the-variants.{To, Open}
-use Rattle.types.specs.Memory.{pick, headAt, numberAt, bindingAt}
-use Rattle.types.specs.View.{type, variable, boundCode, boundIn, onwardIn, endBy, endFrom, endIn}
-use Rattle.types.specs.Tables.{bound-at, length-rows}
-use Rattle.types.specs.Sound.{Sound}
+use Rattle.type_table.specs.declared.Counts.{Counts}
+use Rattle.type_table.specs.declared.TypeId.{TypeId}
+use Rattle.type_table.specs.declared.Bound.{Bound}
+use Rattle.type_table.specs.declared.Bound.the-variants.{To, Open}
+use Rattle.type_table.specs.Memory.{pick, headAt, numberAt, bindingAt}
+use Rattle.type_table.specs.View.{type, variable, boundCode, boundIn, onwardIn, endBy, endFrom, endIn}
+use Rattle.type_table.specs.Tables.{bound-at, length-rows}
+use Rattle.type_table.specs.Sound.{Sound}
 use Rattle.unify.specs.Leaf.{rowsIn, kindsIn}
 use Rattle.unify.specs.Search.{bindsIn}
 use Rattle.unify.specs.Bridge.{var-row}

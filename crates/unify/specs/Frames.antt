@@ -12,14 +12,14 @@ use lib.Seq.{getD-set-same, getD-set-other, set-out}
 use lib.Dec.{eqb, ltb, leb}
 use borrow.Author.Tests.{eq-eqb, ne-eqb, lt-ltb, le-ltb, lt-leb, le-leb}
 use Rattle.theory.specs.Rules.{Mem, bind}
-use Rattle.types.specs.declared.Counts.{Counts}
-use Rattle.types.specs.declared.TypeId.{TypeId}
-use Rattle.types.specs.Memory.{pick, tab, cell, rows-at, inputs-at, rowCell, headAt, numberAt, outputAt, firstAt, countAt, inputsFrom, shapeOf, shapeAt, rowsOf, varCell, kindAt, kindsOf, bindingAt, bindsOf, markAt, marksOf, memOf, Held}
-use Rattle.types.specs.Made.{marking, binding}
+use Rattle.type_table.specs.declared.Counts.{Counts}
+use Rattle.type_table.specs.declared.TypeId.{TypeId}
+use Rattle.type_table.specs.Memory.{pick, tab, cell, rows-at, inputs-at, rowCell, headAt, numberAt, outputAt, firstAt, countAt, inputsFrom, shapeOf, shapeAt, rowsOf, varCell, kindAt, kindsOf, bindingAt, bindsOf, markAt, marksOf, memOf, Held}
+use Rattle.type_table.specs.Made.{marking, binding}
 use Rattle.unify.specs.Leaf.{rowsIn, kindsIn, memIn}
 use Rattle.unify.specs.Step.{Frame}
-use Rattle.types.specs.Tables.{tab-ext}
-use Rattle.types.specs.Keeps.{mark-binds, mark-marks, bind-mem}
+use Rattle.type_table.specs.Tables.{tab-ext}
+use Rattle.type_table.specs.Keeps.{mark-binds, mark-marks, bind-mem}
 
 pub frame-same : (m : List ℕ) (c : Counts) → Frame m c m
 frame-same m c = record { size = refl; same = λ i h. refl; unbound = λ v e. (refl, refl); unmarked = λ v e. refl }

@@ -15,12 +15,12 @@ use Rattle.theory.specs.Rules.{Out, dry, Mem}
 use Rattle.theory.specs.Program.{clip}
 use Rattle.theory.specs.Graph.{Good}
 use Rattle.theory.specs.Keep.{KeptBy, Ended, solve-kept}
-use Rattle.types.specs.declared.Counts.{Counts}
-use Rattle.types.specs.declared.TypeId.{TypeId}
-use Rattle.types.specs.Memory.{pick, cell, cells, most-types, most-vars, counts, varCell, bindingAt, markAt, bindsOf, marksOf, memOf, Held}
-use Rattle.types.specs.Tables.{bound-at, mark-at, length-rows}
-use Rattle.types.specs.Sound.{Laid, Sound}
-use Rattle.types.specs.Keeps.{laid-held, low-sound}
+use Rattle.type_table.specs.declared.Counts.{Counts}
+use Rattle.type_table.specs.declared.TypeId.{TypeId}
+use Rattle.type_table.specs.Memory.{pick, cell, cells, most-types, most-vars, counts, varCell, bindingAt, markAt, bindsOf, marksOf, memOf, Held}
+use Rattle.type_table.specs.Tables.{bound-at, mark-at, length-rows}
+use Rattle.type_table.specs.Sound.{Laid, Sound}
+use Rattle.type_table.specs.Keeps.{laid-held, low-sound}
 use Rattle.unify.specs.declared.Answer.{Answer}
 use Rattle.unify.specs.Leaf.{rowsIn, kindsIn, memIn}
 use Rattle.unify.specs.Step.{Frame}

@@ -6,12 +6,12 @@ use Prim.Native.Nat.{ℕ, _+_}
 use lib.Dec.{eqb, ltb}
 use Rattle.theory.specs.Rules.{Shape, Step, same, compare, left, right, down, swap, differ, Out, success, mismatch, kindOrder, refused12, refused13, dry, Mem, row, asVar, fits, kindFits, cause, signed, isSame, alike, regular, integer, floating}
 use Rattle.theory.specs.Rules.{Kind as KindT}
-use Rattle.types.specs.declared.Counts.{Counts}
-use Rattle.types.specs.declared.TypeId.{TypeId}
-use Rattle.types.specs.declared.VarId.{VarId}
-use Rattle.types.specs.declared.Kind.{Kind}
-use Rattle.types.specs.declared.Kind.the-variants.{Regular, Integer, Float}
-use Rattle.types.specs.Memory.{pick, rowsOf, kindsOf, bindsOf, memOf}
+use Rattle.type_table.specs.declared.Counts.{Counts}
+use Rattle.type_table.specs.declared.TypeId.{TypeId}
+use Rattle.type_table.specs.declared.VarId.{VarId}
+use Rattle.type_table.specs.declared.Kind.{Kind}
+use Rattle.type_table.specs.declared.Kind.the-variants.{Regular, Integer, Float}
+use Rattle.type_table.specs.Memory.{pick, rowsOf, kindsOf, bindsOf, memOf}
 use Rattle.unify.specs.declared.Decision.{Decision}
 use Rattle.unify.specs.declared.Decision.the-variants.{Same, Compare, Left, Right, Down, Swap, Differ}
 use Rattle.unify.specs.declared.Reply.{Reply}

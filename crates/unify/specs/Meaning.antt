@@ -10,10 +10,10 @@ use Rattle.theory.specs.Ways.{Way, Kinded, Plain, den, Agrees, Failed}
 use Rattle.theory.specs.Sound.{Fair, success-exact, failed-none}
 use Rattle.theory.specs.Exist.{way, way-agrees, way-kinded}
 use Rattle.theory.specs.Keep.{Ended}
-use Rattle.types.specs.declared.Counts.{Counts}
-use Rattle.types.specs.declared.TypeId.{TypeId}
-use Rattle.types.specs.Memory.{bindsOf, memOf}
-use Rattle.types.specs.Sound.{Sound}
+use Rattle.type_table.specs.declared.Counts.{Counts}
+use Rattle.type_table.specs.declared.TypeId.{TypeId}
+use Rattle.type_table.specs.Memory.{bindsOf, memOf}
+use Rattle.type_table.specs.Sound.{Sound}
 use Rattle.unify.specs.declared.Answer.{Answer}
 use Rattle.unify.specs.declared.Answer.the-variants.{Success, Mismatch, Refused12, Refused13}
 use Rattle.unify.specs.declared.Cause.{Cause}

@@ -9,10 +9,10 @@ use lib.ListN.{getD, set, length}
 use lib.Dec.{eqb, leb}
 use Rattle.theory.specs.Rules.{asVar, next, bound, leads, far, seek}
 use Rattle.theory.specs.Rules.{Found as FoundT, free, ring, inside, lost}
-use Rattle.types.specs.declared.Counts.{Counts}
-use Rattle.types.specs.declared.TypeId.{TypeId}
-use Rattle.types.specs.declared.VarId.{VarId}
-use Rattle.types.specs.Memory.{pick, most-types, headAt, numberAt, outputAt, firstAt, countAt, inputsFrom, bindsOf, Held}
+use Rattle.type_table.specs.declared.Counts.{Counts}
+use Rattle.type_table.specs.declared.TypeId.{TypeId}
+use Rattle.type_table.specs.declared.VarId.{VarId}
+use Rattle.type_table.specs.Memory.{pick, most-types, headAt, numberAt, outputAt, firstAt, countAt, inputsFrom, bindsOf, Held}
 use Rattle.unify.specs.declared.Found.{Found}
 use Rattle.unify.specs.declared.Found.the-variants.{Free, Ring, Inside, Lost}
 use Rattle.unify.specs.declared.Grown.{Grown}

@@ -9,11 +9,11 @@ use lib.ListN.{length}
 use lib.Dec.{eqb}
 use Rattle.theory.specs.Rules.{Shape, Mem, Res, row, kind, asVar, kids, bound, fits, isSame, signed, split, atVar, perform, move, suits, other, heed, chase, settle}
 use Rattle.theory.specs.Rules.{Kind as KindT}
-use Rattle.types.specs.declared.Counts.{Counts}
-use Rattle.types.specs.declared.TypeId.{TypeId}
-use Rattle.types.specs.declared.VarId.{VarId}
-use Rattle.types.specs.Memory.{pick, cell, headAt, numberAt, outputAt, firstAt, countAt, inputsFrom, bindingAt, markAt, Held}
-use Rattle.types.specs.View.{type}
+use Rattle.type_table.specs.declared.Counts.{Counts}
+use Rattle.type_table.specs.declared.TypeId.{TypeId}
+use Rattle.type_table.specs.declared.VarId.{VarId}
+use Rattle.type_table.specs.Memory.{pick, cell, headAt, numberAt, outputAt, firstAt, countAt, inputsFrom, bindingAt, markAt, Held}
+use Rattle.type_table.specs.View.{type}
 use Rattle.unify.specs.declared.Reply.{Reply}
 use Rattle.unify.specs.declared.Next.{Next}
 use Rattle.unify.specs.declared.Next.the-variants.{Done, On, Into}

@@ -7,9 +7,9 @@ use lib.ListN.{length}
 use lib.Dec.{ltb}
 use Rattle.theory.specs.Rules.{Out, success, mismatch, kindOrder, refused12, refused13, dry, Res, row, kids, split, perform, each, zip, unify}
 use Rattle.theory.specs.Program.{clip, solve}
-use Rattle.types.specs.declared.Counts.{Counts}
-use Rattle.types.specs.declared.TypeId.{TypeId}
-use Rattle.types.specs.Memory.{pick, cells, most-types, most-vars, counts, inputsFrom, Held}
+use Rattle.type_table.specs.declared.Counts.{Counts}
+use Rattle.type_table.specs.declared.TypeId.{TypeId}
+use Rattle.type_table.specs.Memory.{pick, cells, most-types, most-vars, counts, inputsFrom, Held}
 use Rattle.unify.specs.declared.Answer.{Answer}
 use Rattle.unify.specs.declared.Answer.the-variants.{Success as Success·A, Mismatch as Mismatch·A, Refused12 as Refused12·A, Refused13 as Refused13·A}
 use Rattle.unify.specs.declared.Cause.{Cause}

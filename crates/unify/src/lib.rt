@@ -1,4 +1,4 @@
-// Unification over the memory of the crate `types`: the equation of an expected and a got row, by steps 1 to 5 of document 01.
+// Unification over the memory of the crate `type_table`: the equation of an expected and a got row, by steps 1 to 5 of document 01.
 ghost use mathlib.Core.Path.{_≡_};
 ghost use mathlib.Core.List.{List};
 ghost use mathlib.Core.Bool.{_&&_, _||_};
@@ -7,17 +7,17 @@ ghost use lib.Dec.{eqb};
 ghost use Rattle.theory.specs.Rules.{kindFits};
 ghost use Rattle.theory.specs.Rules.{compared as compared·T, choose as choose·T};
 ghost use Rattle.theory.specs.Program.{clip as clip·T};
-ghost use Rattle.types.specs.Memory.{inputsFrom};
+ghost use Rattle.type_table.specs.Memory.{inputsFrom};
 ghost use Rattle.unify.specs.Leaf.{kindK, stepK, cap, code, Classed, Caused, Signed, Compared, SameVar};
 ghost use Rattle.unify.specs.Search.{queue, pushF, pushAll, parts, Visited, Reached, Stands, LedVar, Led, Sought};
 ghost use Rattle.unify.specs.Step.{Settled, Chased, Heeded, Met, Varied, downTo, Stepped};
 ghost use Rattle.unify.specs.Unify.{isSuccess, Eached, Entered, Unified, answerOf, heldIn, Solved};
-use types::Bound;
-use types::Counts;
-use types::InputRange;
-use types::Kind;
-use types::TypeId;
-use types::VarId;
+use type_table::Bound;
+use type_table::Counts;
+use type_table::InputRange;
+use type_table::Kind;
+use type_table::TypeId;
+use type_table::VarId;
 
 // What sets the causes of a mismatch apart: 2 is kind order.
 pub enum Cause {
@@ -39,15 +39,15 @@ pub enum Answer {
 fn class(m: &[u16], c: Counts, z: TypeId) -> Kind
     ensures { λ r. ⌜ Classed (now (m .entry)) c z r ⌝ }
 {
-    let h = types::head(m, c, z);
+    let h = type_table::head(m, c, z);
     match h {
         1 => Kind::Integer,
         2 => Kind::Integer,
         3 => Kind::Float,
         4 => Kind::Float,
         12 => {
-            let u = types::number(m, c, z);
-            types::kind_of(m, c, VarId(u))
+            let u = type_table::number(m, c, z);
+            type_table::kind_of(m, c, VarId(u))
         }
         _ => Kind::Regular,
     }
@@ -76,10 +76,10 @@ fn kind_test(k: Kind, l: Kind) -> bool
 fn cause_of(m: &[u16], c: Counts, z: TypeId) -> Reply
     ensures { λ r. ⌜ Caused (now (m .entry)) c z r ⌝ }
 {
-    let h = types::head(m, c, z);
+    let h = type_table::head(m, c, z);
     if h == 12 {
-        let u = types::number(m, c, z);
-        return match types::kind_of(m, c, VarId(u)) {
+        let u = type_table::number(m, c, z);
+        return match type_table::kind_of(m, c, VarId(u)) {
             Kind::Regular => Reply::KindOrder,
             Kind::Integer => Reply::Mismatch,
             Kind::Float => Reply::Mismatch,
@@ -92,7 +92,7 @@ fn cause_of(m: &[u16], c: Counts, z: TypeId) -> Reply
 fn signed(m: &[u16], c: Counts, z: TypeId) -> bool
     ensures { λ r. ⌜ Signed (now (m .entry)) c z r ⌝ }
 {
-    let h = types::head(m, c, z);
+    let h = type_table::head(m, c, z);
     if h == 2 {
         return true;
     }
@@ -103,9 +103,9 @@ fn signed(m: &[u16], c: Counts, z: TypeId) -> bool
 fn same_var(m: &[u16], c: Counts, v: VarId, z: TypeId) -> bool
     ensures { λ r. ⌜ SameVar (now (m .entry)) c v z r ⌝ }
 {
-    let h = types::head(m, c, z);
+    let h = type_table::head(m, c, z);
     if h == 12 {
-        let u = types::number(m, c, z);
+        let u = type_table::number(m, c, z);
         let w = v.0;
         return u == w;
     }
@@ -219,11 +219,11 @@ fn base_code(h: u16, a: u16) -> u32
 fn compare(m: &[u16], c: Counts, x: TypeId, y: TypeId) -> Reply
     ensures { λ r. ⌜ Compared (now (m .entry)) c x y r ⌝ }
 {
-    let h = types::head(m, c, x);
-    let a = types::number(m, c, x);
+    let h = type_table::head(m, c, x);
+    let a = type_table::number(m, c, x);
     let i = base_code(h, a);
-    let k = types::head(m, c, y);
-    let b = types::number(m, c, y);
+    let k = type_table::head(m, c, y);
+    let b = type_table::number(m, c, y);
     let j = base_code(k, b);
     if i == 0 {
         return Reply::Mismatch;
@@ -278,7 +278,7 @@ fn push_inputs(q: &mut [u16; 9244], m: &[u16], n: u16, r: InputRange, tail: usiz
     let mut f = r.first as u32;
     let mut k = r.count;
     while 0 < k {
-        let y = types::input(m, f);
+        let y = type_table::input(m, f);
         t = push(q, n, t, y);
         f += 1;
         k -= 1;
@@ -291,16 +291,16 @@ fn push_parts(q: &mut [u16; 9244], m: &[u16], c: Counts, x: TypeId, tail: usize)
     ensures { λ t. ⌜ queue (now (q .exit)) t ≡ pushAll (c .types) (queue (now (q .entry)) tail) (parts (now (m .entry)) c x) ⌝ }
 {
     let n = c.types;
-    let h = types::head(m, c, x);
+    let h = type_table::head(m, c, x);
     match h {
         6 | 13 => {
-            let o = types::output(m, c, x);
+            let o = type_table::output(m, c, x);
             let t = push(q, n, tail, o);
-            let r = types::inputs(m, c, x);
+            let r = type_table::inputs(m, c, x);
             push_inputs(q, m, n, r, t)
         }
         8 | 14 => {
-            let e = types::number(m, c, x);
+            let e = type_table::number(m, c, x);
             push(q, n, tail, TypeId(e))
         }
         _ => tail,
@@ -311,14 +311,14 @@ fn push_parts(q: &mut [u16; 9244], m: &[u16], c: Counts, x: TypeId, tail: usize)
 fn visit(q: &mut [u16; 9244], m: &[u16], c: Counts, v: VarId, x: TypeId, tail: usize) -> Grown
     ensures { λ r. ⌜ Visited (now (m .entry)) c v x (now (q .entry)) tail (now (q .exit)) r ⌝ }
 {
-    let h = types::head(m, c, x);
+    let h = type_table::head(m, c, x);
     if h == 12 {
-        let u = types::number(m, c, x);
+        let u = type_table::number(m, c, x);
         let w = v.0;
         if u == w {
             return Grown::Hit;
         }
-        match types::bound_to(m, c, VarId(u)) {
+        match type_table::bound_to(m, c, VarId(u)) {
             Bound::Open => {
                 return Grown::Tail(tail);
             }
@@ -372,7 +372,7 @@ fn leads_var(m: &[u16], c: Counts, v: VarId, u: VarId) -> Lead
     if i == j {
         return Lead::At;
     }
-    match types::bound_to(m, c, u) {
+    match type_table::bound_to(m, c, u) {
         Bound::Open => Lead::End,
         Bound::To(y) => Lead::To(y),
     }
@@ -381,14 +381,14 @@ fn leads_var(m: &[u16], c: Counts, v: VarId, u: VarId) -> Lead
 fn leads(m: &[u16], c: Counts, v: VarId, x: TypeId) -> Lead
     ensures { λ r. ⌜ Led (now (m .entry)) c v x r ⌝ }
 {
-    let h = types::head(m, c, x);
+    let h = type_table::head(m, c, x);
     match h {
         8 | 14 => {
-            let e = types::number(m, c, x);
+            let e = type_table::number(m, c, x);
             Lead::To(TypeId(e))
         }
         12 => {
-            let u = types::number(m, c, x);
+            let u = type_table::number(m, c, x);
             leads_var(m, c, v, VarId(u))
         }
         6 | 13 => Lead::Parts,
@@ -429,9 +429,9 @@ fn seek(m: &[u16], c: Counts, v: VarId, z: TypeId) -> Found
     let mut x = z;
     let mut n = c.types as u32 + 1;
     while 0 < n {
-        let h = types::head(m, c, x);
+        let h = type_table::head(m, c, x);
         if h == 12 {
-            let u = types::number(m, c, x);
+            let u = type_table::number(m, c, x);
             match leads_var(m, c, v, VarId(u)) {
                 Lead::At => {
                     return Found::Ring;
@@ -472,7 +472,7 @@ fn settle(m: &mut [u16], c: Counts, v: VarId, z: TypeId) -> Reply
 {
     match seek(m, c, v, z) {
         Found::Free => {
-            types::bind(m, c, v, z);
+            type_table::bind(m, c, v, z);
             Reply::Success
         }
         Found::Ring => Reply::Success,
@@ -485,7 +485,7 @@ fn settle(m: &mut [u16], c: Counts, v: VarId, z: TypeId) -> Reply
 fn chase(m: &mut [u16], c: Counts, v: VarId, z: TypeId) -> Next
     ensures { λ r. ⌜ Chased (now (m .entry)) c v z (now (m .exit)) r ⌝ }
 {
-    match types::bound_to(m, c, v) {
+    match type_table::bound_to(m, c, v) {
         Bound::Open => {
             let a = settle(m, c, v, z);
             Next::Done(a)
@@ -499,10 +499,10 @@ fn heed(m: &mut [u16], c: Counts, v: VarId, z: TypeId) -> Next
     ensures { λ r. ⌜ Heeded (now (m .entry)) c v z (now (m .exit)) r ⌝ }
 {
     if signed(m, c, z) {
-        let h = types::head(m, c, z);
+        let h = type_table::head(m, c, z);
         if h == 12 {
-            let u = types::number(m, c, z);
-            types::mark(m, c, VarId(u));
+            let u = type_table::number(m, c, z);
+            type_table::mark(m, c, VarId(u));
             return chase(m, c, v, z);
         }
         return chase(m, c, v, z);
@@ -517,7 +517,7 @@ fn meet(m: &mut [u16], c: Counts, v: VarId, z: TypeId) -> Next
     if same_var(m, c, v, z) {
         return Next::Done(Reply::Success);
     }
-    if types::is_marked(m, c, v) {
+    if type_table::is_marked(m, c, v) {
         return heed(m, c, v, z);
     }
     chase(m, c, v, z)
@@ -527,10 +527,10 @@ fn meet(m: &mut [u16], c: Counts, v: VarId, z: TypeId) -> Next
 fn variable(m: &mut [u16], c: Counts, x: TypeId, z: TypeId) -> Next
     ensures { λ r. ⌜ Varied (now (m .entry)) c x z (now (m .exit)) r ⌝ }
 {
-    let h = types::head(m, c, x);
+    let h = type_table::head(m, c, x);
     if h == 12 {
-        let u = types::number(m, c, x);
-        let k = types::kind_of(m, c, VarId(u));
+        let u = type_table::number(m, c, x);
+        let k = type_table::kind_of(m, c, VarId(u));
         let l = class(m, c, z);
         if kind_test(k, l) {
             return meet(m, c, VarId(u), z);
@@ -545,11 +545,11 @@ fn variable(m: &mut [u16], c: Counts, x: TypeId, z: TypeId) -> Next
 fn down(m: &[u16], c: Counts, x: TypeId, y: TypeId) -> Next
     ensures { λ r. ⌜ r ≡ downTo (now (m .entry)) c x y ⌝ }
 {
-    let h = types::head(m, c, x);
-    let k = types::head(m, c, y);
+    let h = type_table::head(m, c, x);
+    let k = type_table::head(m, c, y);
     if both(h, 8, k, 8) {
-        let a = types::number(m, c, x);
-        let b = types::number(m, c, y);
+        let a = type_table::number(m, c, x);
+        let b = type_table::number(m, c, y);
         return Next::On(TypeId(a), TypeId(b));
     }
     Next::Into(x, y)
@@ -559,8 +559,8 @@ fn down(m: &[u16], c: Counts, x: TypeId, y: TypeId) -> Next
 fn step(m: &mut [u16], c: Counts, x: TypeId, y: TypeId) -> Next
     ensures { λ r. ⌜ Stepped (now (m .entry)) c x y (now (m .exit)) r ⌝ }
 {
-    let h = types::head(m, c, x);
-    let k = types::head(m, c, y);
+    let h = type_table::head(m, c, x);
+    let k = type_table::head(m, c, y);
     match choose(h, k) {
         Decision::Same => Next::Done(Reply::Success),
         Decision::Compare => {
@@ -598,8 +598,8 @@ fn each(m: &mut [u16], c: Counts, first: u16, second: u16, count: u16, n: u64) -
     let mut g = second as u32;
     let mut k = count;
     while 0 < k {
-        let x = types::input(m, f);
-        let y = types::input(m, g);
+        let x = type_table::input(m, f);
+        let y = type_table::input(m, g);
         let a = uni(m, c, x, y, n);
         if is_success(a) {
             f += 1;
@@ -616,10 +616,10 @@ fn each(m: &mut [u16], c: Counts, first: u16, second: u16, count: u16, n: u64) -
 fn into(m: &mut [u16], c: Counts, x: TypeId, y: TypeId, n: u64) -> Reply
     ensures { λ r. ⌜ Entered (now (m .entry)) c x y n (now (m .exit)) r ⌝ }
 {
-    let o = types::output(m, c, x);
-    let p = types::output(m, c, y);
-    let r = types::inputs(m, c, x);
-    let s = types::inputs(m, c, y);
+    let o = type_table::output(m, c, x);
+    let p = type_table::output(m, c, y);
+    let r = type_table::inputs(m, c, x);
+    let s = type_table::inputs(m, c, y);
     let a = uni(m, c, o, p, n);
     if is_success(a) {
         let k = r.count;
@@ -678,21 +678,21 @@ fn held(m: &[u16], c: Counts) -> Counts
 {
     let t = c.types;
     let v = c.vars;
-    if m.len() < types::MEMORY {
+    if m.len() < type_table::MEMORY {
         return Counts {
             types: 0,
             vars: 0,
             inputs: 0,
         };
     }
-    if types::MOST_TYPES < t {
+    if type_table::MOST_TYPES < t {
         return Counts {
             types: 0,
             vars: 0,
             inputs: 0,
         };
     }
-    if types::MOST_VARS < v {
+    if type_table::MOST_VARS < v {
         return Counts {
             types: 0,
             vars: 0,

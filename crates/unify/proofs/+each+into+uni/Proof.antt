@@ -10,9 +10,9 @@ use Rattle.unify.proofs.+each+into+uni.Lts-into as into-lts
 use Rattle.unify.proofs.uni.Reads as uni
 use Rattle.unify.proofs.uni.Kinds as uni-kinds
 use Rattle.unify.proofs.+each+into+uni.Lts-uni as uni-lts
-use Rattle.types.proofs.input.Reads as input-reads
-use Rattle.types.proofs.inputs.Reads as inputs-reads
-use Rattle.types.proofs.output.Reads as output-reads
+use Rattle.type_table.proofs.input.Reads as input-reads
+use Rattle.type_table.proofs.inputs.Reads as inputs-reads
+use Rattle.type_table.proofs.output.Reads as output-reads
 use Rattle.unify.proofs.is_success.Reads as is-success-reads
 use Rattle.unify.proofs.step.Reads as step-reads
 use Rattle.unify.proofs.+each+into+uni.{statement}

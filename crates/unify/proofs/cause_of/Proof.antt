@@ -2,15 +2,15 @@ use borrow.Author.Needs.{needs}
 use Rattle.unify.proofs.Laws.{cause-var, cause-other}
 use mathlib.Core.Path.{_≡_, refl, sym, ap, _∙_}
 use native.Mathlib.Omega.{arith}
-use Rattle.types.specs.declared.Kind.the-variants.{Regular, Integer, Float}
+use Rattle.type_table.specs.declared.Kind.the-variants.{Regular, Integer, Float}
 use Rattle.unify.specs.declared.Reply.the-variants.{Mismatch, KindOrder}
 use Rattle.unify.proofs.cause_of.Statement.{statement}
 use Rattle.unify.proofs.cause_of.Tie as tie
 use Rattle.unify.proofs.cause_of.Reads as reads
 use Rattle.unify.proofs.cause_of.Lts as lts
-use Rattle.types.proofs.head.Reads as head-reads
-use Rattle.types.proofs.kind_of.Reads as kind-of-reads
-use Rattle.types.proofs.number.Reads as number-reads
+use Rattle.type_table.proofs.head.Reads as head-reads
+use Rattle.type_table.proofs.kind_of.Reads as kind-of-reads
+use Rattle.type_table.proofs.number.Reads as number-reads
 
 -- src/lib.rt:78:9
 head-requires : tie.Need-head-requires

@@ -6,7 +6,7 @@ use Rattle.unify.proofs.chase.Statement.{statement}
 use Rattle.unify.proofs.chase.Tie as tie
 use Rattle.unify.proofs.chase.Reads as reads
 use Rattle.unify.proofs.chase.Lts as lts
-use Rattle.types.proofs.bound_to.Reads as bound-to-reads
+use Rattle.type_table.proofs.bound_to.Reads as bound-to-reads
 use Rattle.unify.proofs.settle.Reads as settle-reads
 
 -- src/lib.rt:487:11

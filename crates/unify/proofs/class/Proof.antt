@@ -2,14 +2,14 @@ use borrow.Author.Needs.{needs}
 use Rattle.unify.proofs.Laws.{class-at, class-var, class-other}
 use mathlib.Core.Path.{_≡_, refl, sym, ap, _∙_}
 use native.Mathlib.Omega.{arith}
-use Rattle.types.specs.declared.Kind.the-variants.{Regular, Integer, Float}
+use Rattle.type_table.specs.declared.Kind.the-variants.{Regular, Integer, Float}
 use Rattle.unify.proofs.class.Statement.{statement}
 use Rattle.unify.proofs.class.Tie as tie
 use Rattle.unify.proofs.class.Reads as reads
 use Rattle.unify.proofs.class.Lts as lts
-use Rattle.types.proofs.head.Reads as head-reads
-use Rattle.types.proofs.kind_of.Reads as kind-of-reads
-use Rattle.types.proofs.number.Reads as number-reads
+use Rattle.type_table.proofs.head.Reads as head-reads
+use Rattle.type_table.proofs.kind_of.Reads as kind-of-reads
+use Rattle.type_table.proofs.number.Reads as number-reads
 
 -- src/lib.rt:41:9
 head-requires : tie.Need-head-requires

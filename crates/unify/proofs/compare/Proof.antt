@@ -4,8 +4,8 @@ use Rattle.unify.proofs.compare.Statement.{statement}
 use Rattle.unify.proofs.compare.Tie as tie
 use Rattle.unify.proofs.compare.Reads as reads
 use Rattle.unify.proofs.compare.Lts as lts
-use Rattle.types.proofs.head.Reads as head-reads
-use Rattle.types.proofs.number.Reads as number-reads
+use Rattle.type_table.proofs.head.Reads as head-reads
+use Rattle.type_table.proofs.number.Reads as number-reads
 use Rattle.unify.proofs.base_code.Reads as base-code-reads
 
 -- src/lib.rt:216:9

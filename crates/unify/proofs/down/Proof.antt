@@ -4,8 +4,8 @@ use Rattle.unify.proofs.down.Statement.{statement}
 use Rattle.unify.proofs.down.Tie as tie
 use Rattle.unify.proofs.down.Reads as reads
 use Rattle.unify.proofs.down.Lts as lts
-use Rattle.types.proofs.head.Reads as head-reads
-use Rattle.types.proofs.number.Reads as number-reads
+use Rattle.type_table.proofs.head.Reads as head-reads
+use Rattle.type_table.proofs.number.Reads as number-reads
 use Rattle.unify.proofs.both.Reads as both-reads
 
 -- src/lib.rt:542:9

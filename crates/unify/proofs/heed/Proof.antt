@@ -6,9 +6,9 @@ use Rattle.unify.proofs.heed.Statement.{statement}
 use Rattle.unify.proofs.heed.Tie as tie
 use Rattle.unify.proofs.heed.Reads as reads
 use Rattle.unify.proofs.heed.Lts as lts
-use Rattle.types.proofs.head.Reads as head-reads
-use Rattle.types.proofs.mark.Reads as mark-reads
-use Rattle.types.proofs.number.Reads as number-reads
+use Rattle.type_table.proofs.head.Reads as head-reads
+use Rattle.type_table.proofs.mark.Reads as mark-reads
+use Rattle.type_table.proofs.number.Reads as number-reads
 use Rattle.unify.proofs.chase.Reads as chase-reads
 use Rattle.unify.proofs.signed.Reads as signed-reads
 

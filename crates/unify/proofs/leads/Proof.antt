@@ -5,8 +5,8 @@ use Rattle.unify.proofs.leads.Statement.{statement}
 use Rattle.unify.proofs.leads.Tie as tie
 use Rattle.unify.proofs.leads.Reads as reads
 use Rattle.unify.proofs.leads.Lts as lts
-use Rattle.types.proofs.head.Reads as head-reads
-use Rattle.types.proofs.number.Reads as number-reads
+use Rattle.type_table.proofs.head.Reads as head-reads
+use Rattle.type_table.proofs.number.Reads as number-reads
 use Rattle.unify.proofs.leads_var.Reads as leads-var-reads
 
 -- src/lib.rt:378:9

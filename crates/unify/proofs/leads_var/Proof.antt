@@ -4,7 +4,7 @@ use Rattle.unify.proofs.leads_var.Statement.{statement}
 use Rattle.unify.proofs.leads_var.Tie as tie
 use Rattle.unify.proofs.leads_var.Reads as reads
 use Rattle.unify.proofs.leads_var.Lts as lts
-use Rattle.types.proofs.bound_to.Reads as bound-to-reads
+use Rattle.type_table.proofs.bound_to.Reads as bound-to-reads
 
 -- src/lib.rt:367:9
 returns : tie.Need-returns

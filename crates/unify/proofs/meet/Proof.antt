@@ -6,7 +6,7 @@ use Rattle.unify.proofs.meet.Statement.{statement}
 use Rattle.unify.proofs.meet.Tie as tie
 use Rattle.unify.proofs.meet.Reads as reads
 use Rattle.unify.proofs.meet.Lts as lts
-use Rattle.types.proofs.is_marked.Reads as is-marked-reads
+use Rattle.type_table.proofs.is_marked.Reads as is-marked-reads
 use Rattle.unify.proofs.chase.Reads as chase-reads
 use Rattle.unify.proofs.heed.Reads as heed-reads
 use Rattle.unify.proofs.same_var.Reads as same-var-reads

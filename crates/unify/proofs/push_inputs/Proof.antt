@@ -3,13 +3,13 @@ use mathlib.Core.Path.{_≡_, refl, sym, ap, _∙_}
 use native.Mathlib.Omega.{arith}
 use borrow.Author.Needs.{needs}
 use Prim.Native.Nat.{_≤_, _+_}
-use Rattle.types.specs.Memory.{inputsFrom}
+use Rattle.type_table.specs.Memory.{inputsFrom}
 use Rattle.unify.specs.Search.{queue, pushAll}
 use Rattle.unify.proofs.push_inputs.Statement.{statement}
 use Rattle.unify.proofs.push_inputs.Tie as tie
 use Rattle.unify.proofs.push_inputs.Reads as reads
 use Rattle.unify.proofs.push_inputs.Lts as lts
-use Rattle.types.proofs.input.Reads as input-reads
+use Rattle.type_table.proofs.input.Reads as input-reads
 use Rattle.unify.proofs.push.Reads as push-reads
 
 abbrev Inv-loop : tie.InvT-loop

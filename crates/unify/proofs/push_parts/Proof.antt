@@ -5,10 +5,10 @@ use Rattle.unify.proofs.push_parts.Statement.{statement}
 use Rattle.unify.proofs.push_parts.Tie as tie
 use Rattle.unify.proofs.push_parts.Reads as reads
 use Rattle.unify.proofs.push_parts.Lts as lts
-use Rattle.types.proofs.head.Reads as head-reads
-use Rattle.types.proofs.inputs.Reads as inputs-reads
-use Rattle.types.proofs.number.Reads as number-reads
-use Rattle.types.proofs.output.Reads as output-reads
+use Rattle.type_table.proofs.head.Reads as head-reads
+use Rattle.type_table.proofs.inputs.Reads as inputs-reads
+use Rattle.type_table.proofs.number.Reads as number-reads
+use Rattle.type_table.proofs.output.Reads as output-reads
 use Rattle.unify.proofs.push.Reads as push-reads
 use Rattle.unify.proofs.push_inputs.Reads as push-inputs-reads
 

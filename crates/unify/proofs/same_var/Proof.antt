@@ -4,8 +4,8 @@ use Rattle.unify.proofs.same_var.Statement.{statement}
 use Rattle.unify.proofs.same_var.Tie as tie
 use Rattle.unify.proofs.same_var.Reads as reads
 use Rattle.unify.proofs.same_var.Lts as lts
-use Rattle.types.proofs.head.Reads as head-reads
-use Rattle.types.proofs.number.Reads as number-reads
+use Rattle.type_table.proofs.head.Reads as head-reads
+use Rattle.type_table.proofs.number.Reads as number-reads
 
 -- src/lib.rt:105:9
 head-requires : tie.Need-head-requires

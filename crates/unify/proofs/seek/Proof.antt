@@ -6,8 +6,8 @@ use Rattle.unify.proofs.seek.Statement.{statement}
 use Rattle.unify.proofs.seek.Tie as tie
 use Rattle.unify.proofs.seek.Reads as reads
 use Rattle.unify.proofs.seek.Lts as lts
-use Rattle.types.proofs.head.Reads as head-reads
-use Rattle.types.proofs.number.Reads as number-reads
+use Rattle.type_table.proofs.head.Reads as head-reads
+use Rattle.type_table.proofs.number.Reads as number-reads
 use Rattle.unify.proofs.leads_var.Reads as leads-var-reads
 use Rattle.unify.proofs.stands_in.Reads as stands-in-reads
 

@@ -6,7 +6,7 @@ use Rattle.unify.proofs.settle.Statement.{statement}
 use Rattle.unify.proofs.settle.Tie as tie
 use Rattle.unify.proofs.settle.Reads as reads
 use Rattle.unify.proofs.settle.Lts as lts
-use Rattle.types.proofs.bind.Reads as bind-reads
+use Rattle.type_table.proofs.bind.Reads as bind-reads
 use Rattle.unify.proofs.seek.Reads as seek-reads
 
 -- src/lib.rt:472:11

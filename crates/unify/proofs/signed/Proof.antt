@@ -4,7 +4,7 @@ use Rattle.unify.proofs.signed.Statement.{statement}
 use Rattle.unify.proofs.signed.Tie as tie
 use Rattle.unify.proofs.signed.Reads as reads
 use Rattle.unify.proofs.signed.Lts as lts
-use Rattle.types.proofs.head.Reads as head-reads
+use Rattle.type_table.proofs.head.Reads as head-reads
 
 -- src/lib.rt:94:9
 head-requires : tie.Need-head-requires

@@ -6,7 +6,7 @@ use Rattle.unify.proofs.step.Statement.{statement}
 use Rattle.unify.proofs.step.Tie as tie
 use Rattle.unify.proofs.step.Reads as reads
 use Rattle.unify.proofs.step.Lts as lts
-use Rattle.types.proofs.head.Reads as head-reads
+use Rattle.type_table.proofs.head.Reads as head-reads
 use Rattle.unify.proofs.choose.Reads as choose-reads
 use Rattle.unify.proofs.compare.Reads as compare-reads
 use Rattle.unify.proofs.down.Reads as down-reads

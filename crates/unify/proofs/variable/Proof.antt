@@ -6,9 +6,9 @@ use Rattle.unify.proofs.variable.Statement.{statement}
 use Rattle.unify.proofs.variable.Tie as tie
 use Rattle.unify.proofs.variable.Reads as reads
 use Rattle.unify.proofs.variable.Lts as lts
-use Rattle.types.proofs.head.Reads as head-reads
-use Rattle.types.proofs.kind_of.Reads as kind-of-reads
-use Rattle.types.proofs.number.Reads as number-reads
+use Rattle.type_table.proofs.head.Reads as head-reads
+use Rattle.type_table.proofs.kind_of.Reads as kind-of-reads
+use Rattle.type_table.proofs.number.Reads as number-reads
 use Rattle.unify.proofs.cause_of.Reads as cause-of-reads
 use Rattle.unify.proofs.class.Reads as class-reads
 use Rattle.unify.proofs.kind_test.Reads as kind-test-reads

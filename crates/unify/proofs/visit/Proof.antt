@@ -4,9 +4,9 @@ use Rattle.unify.proofs.visit.Statement.{statement}
 use Rattle.unify.proofs.visit.Tie as tie
 use Rattle.unify.proofs.visit.Reads as reads
 use Rattle.unify.proofs.visit.Lts as lts
-use Rattle.types.proofs.bound_to.Reads as bound-to-reads
-use Rattle.types.proofs.head.Reads as head-reads
-use Rattle.types.proofs.number.Reads as number-reads
+use Rattle.type_table.proofs.bound_to.Reads as bound-to-reads
+use Rattle.type_table.proofs.head.Reads as head-reads
+use Rattle.type_table.proofs.number.Reads as number-reads
 use Rattle.unify.proofs.push.Reads as push-reads
 use Rattle.unify.proofs.push_parts.Reads as push-parts-reads
 
