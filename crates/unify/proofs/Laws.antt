@@ -1,15 +1,12 @@
 -- What each return of a leaf shows, over plain variables.
 use mathlib.Core.Path.{_≡_, refl, sym, ap, _∙_}
 use mathlib.Core.Logic.{_≢_}
-use mathlib.Core.List.{List, [], _∷_}
-use mathlib.Core.Option.{Option, none, some}
+use mathlib.Core.List.{List}
 use mathlib.Core.Bool.{Bool, true, false, _&&_, _||_, cond}
-use Prim.Native.Nat.{ℕ, suc, zero, _+_, _≤_, _<_}
-use native.Mathlib.Omega.{arith}
+use Prim.Native.Nat.{ℕ, _≤_, _<_}
 use lib.Dec.{eqb}
 use borrow.Author.Tests.{eq-eqb, ne-eqb, lt-ltb, le-ltb}
-use Rattle.theory.specs.Rules.{Step, same, compare, left, right, down, swap, differ, compared, choose, success, mismatch, kindOrder, var, row, asVar, kind, fits, kindFits, isRegular, regular, integer, floating}
-use Rattle.theory.specs.Rules.{Kind as KindT}
+use Rattle.theory.specs.Rules.{same, compare, left, right, down, swap, differ, compared, choose, mismatch, kindOrder, var, row, kind, fits, kindFits, isRegular, regular, integer, floating}
 use Rattle.type_table.specs.declared.Counts.{Counts}
 use Rattle.type_table.specs.declared.TypeId.{TypeId}
 use Rattle.type_table.specs.declared.VarId.{VarId}
@@ -20,7 +17,7 @@ use Rattle.type_table.specs.View.{type, variable, kindCode, kindIn}
 use Rattle.unify.specs.declared.Next.the-variants.{On, Into}
 use Rattle.unify.specs.Step.{downTo}
 use Rattle.unify.specs.declared.Reply.{Reply}
-use Rattle.unify.specs.declared.Reply.the-variants.{Mismatch, KindOrder, Success}
+use Rattle.unify.specs.declared.Reply.the-variants.{Mismatch, Success}
 use Rattle.unify.specs.Leaf.{kindK, outK, Classed, Caused, Signed, SameVar, Compared, code}
 use Rattle.type_table.specs.Tables.{kind-at}
 use Rattle.unify.specs.Bridge.{var-row, no-var-row, signed-row, fits-row, alike-row}

@@ -12,8 +12,8 @@ use lib.ListN.{getD, set, length, length-set, replicate, length-replicate, getD-
 use lib.Seq.{getD-set-same, getD-set-other}
 use lib.Dec.{eqb, leb}
 use borrow.Author.Tests.{eq-eqb, ne-eqb, le-leb, lt-leb, leb-false}
-use Rattle.theory.specs.Rules.{row, base, nil, var, kids, asVar, bound, next, succs, optList, isSame, any, leads, leadsAt, far, seek, seekAt, seekVar, follow, iter}
-use Rattle.theory.specs.Rules.{Found as FoundT, free, ring, inside, lost}
+use Rattle.theory.specs.Rules.{row, base, nil, var, asVar, bound, succs, optList, isSame, any, leads, far, seek, seekVar, follow}
+use Rattle.theory.specs.Rules.{free, ring, inside, lost}
 use Rattle.theory.specs.Basics.{All, all-map}
 use Rattle.type_table.specs.declared.Counts.{Counts}
 use Rattle.type_table.specs.declared.TypeId.{TypeId}
@@ -21,16 +21,15 @@ use Rattle.type_table.specs.declared.VarId.{VarId}
 use Rattle.type_table.specs.declared.InputRange.{InputRange}
 use Rattle.type_table.specs.declared.Bound.{Bound}
 use Rattle.type_table.specs.declared.Bound.the-variants.{To as To·B, Open}
-use Rattle.type_table.specs.Memory.{pick, cell, inputs-at, headAt, numberAt, outputAt, firstAt, countAt, inputsFrom, bindingAt, rowsOf, bindsOf, Held}
+use Rattle.type_table.specs.Memory.{pick, cell, inputs-at, headAt, numberAt, outputAt, firstAt, countAt, inputsFrom, bindingAt, Held}
 use Rattle.type_table.specs.View.{type, variable, boundCode, boundIn}
-use Rattle.unify.specs.declared.Found.{Found}
 use Rattle.unify.specs.declared.Found.the-variants.{Free, Ring, Inside, Lost}
 use Rattle.unify.specs.declared.Grown.{Grown}
 use Rattle.unify.specs.declared.Grown.the-variants.{Hit, Tail}
 use Rattle.unify.specs.declared.Lead.{Lead}
 use Rattle.unify.specs.declared.Lead.the-variants.{At, End, Parts, To}
-use Rattle.unify.specs.Leaf.{rowsIn, rowIn}
-use Rattle.unify.specs.Search.{Queue, queue, pushF, pushAll, parts, bindsIn, nextIn, leadsIn, Visited, ReachedK, Reached, LedVar, Led, Stands, foundK, seekIn, Sought}
+use Rattle.unify.specs.Leaf.{rowsIn}
+use Rattle.unify.specs.Search.{Queue, queue, pushF, pushAll, parts, bindsIn, nextIn, leadsIn, Visited, ReachedK, Reached, LedVar, Led, Stands, seekIn, Sought}
 use Rattle.type_table.specs.Tables.{bound-at, length-rows}
 use Rattle.unify.specs.Bridge.{var-row, no-var-row, kids-row}
 

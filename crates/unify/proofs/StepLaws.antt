@@ -3,36 +3,33 @@ use mathlib.Core.Path.{_≡_, refl, sym, ap, _∙_}
 use mathlib.Core.Logic.{_≢_, _⊎_, inl, inr}
 use mathlib.Core.List.{List, [], _∷_}
 use mathlib.Core.Option.{Option, none, some}
-use mathlib.Core.Bool.{Bool, true, false, not, _&&_, _||_, cond}
-use Prim.Native.Nat.{ℕ, suc, zero, _+_, _≤_, _<_}
+use mathlib.Core.Bool.{Bool, true, false, _&&_, _||_, cond}
+use Prim.Native.Nat.{ℕ}
 use native.Mathlib.Omega.{arith}
 use native.Mathlib.Decide.{ℕ-discrete}
-use lib.ListN.{length}
 use lib.Dec.{eqb}
-use borrow.Author.Tests.{eq-eqb, ne-eqb}
-use Rattle.theory.specs.Rules.{Step, same, compare, left, right, down, swap, differ, Out, success, mismatch, kindOrder, refused12, refused13, dry, Mem, Res, Shape, var, arr, row, head, kids, asVar, kind, bound, fits, kindFits, isSame, signed, marked, passTo, pass, cause, alike, choose, compared, split, atVar, act, move, perform, each, onward, andThen, suits, other, heed, chase, settle, seek, zip}
-use Rattle.theory.specs.Rules.{Found as FoundT, free, ring, inside, lost}
-use Rattle.theory.specs.Rules.{Kind as KindT}
+use borrow.Author.Tests.{ne-eqb}
+use Rattle.theory.specs.Rules.{same, compare, left, right, down, swap, differ, Out, success, mismatch, kindOrder, refused12, refused13, dry, Mem, Res, row, kids, asVar, kind, bound, fits, kindFits, marked, passTo, pass, choose, compared, split, atVar, act, move, perform, each, onward, andThen, heed, chase, settle}
 use Rattle.type_table.specs.declared.Counts.{Counts}
 use Rattle.type_table.specs.declared.TypeId.{TypeId}
 use Rattle.type_table.specs.declared.VarId.{VarId}
 use Rattle.type_table.specs.declared.Kind.{Kind}
 use Rattle.type_table.specs.declared.Bound.{Bound}
 use Rattle.type_table.specs.declared.Bound.the-variants.{To as To·B, Open}
-use Rattle.type_table.specs.Memory.{pick, headAt, numberAt, outputAt, firstAt, countAt, inputsFrom, bindingAt, markAt, rowsOf, kindsOf, bindsOf, marksOf, memOf, Held}
+use Rattle.type_table.specs.Memory.{headAt, numberAt, bindingAt, markAt, bindsOf, marksOf, memOf, Held}
 use Rattle.type_table.specs.Made.{marking, binding}
 use Rattle.type_table.specs.View.{type, variable, kindIn, boundCode, boundIn}
 use Rattle.unify.specs.declared.Decision.{Decision}
 use Rattle.unify.specs.declared.Decision.the-variants.{Same, Compare, Left, Right, Down, Swap, Differ}
 use Rattle.unify.specs.declared.Reply.{Reply}
-use Rattle.unify.specs.declared.Reply.the-variants.{Success, Mismatch, KindOrder, Refused12, Refused13, Dry}
+use Rattle.unify.specs.declared.Reply.the-variants.{Success, Mismatch, Refused12, Refused13, Dry}
 use Rattle.unify.specs.declared.Next.{Next}
 use Rattle.unify.specs.declared.Next.the-variants.{Done, On, Into}
 use Rattle.unify.specs.declared.Found.{Found}
 use Rattle.unify.specs.declared.Found.the-variants.{Free, Ring, Inside, Lost}
-use Rattle.unify.specs.Leaf.{rowsIn, kindsIn, memIn, rowIn, kindK, outK, stepK, Classed, Caused, Signed, SameVar, Compared}
-use Rattle.unify.specs.Search.{seekIn, Sought, foundK, parts}
-use Rattle.unify.specs.Step.{Frame, Rec, resume, Parted, Enterable, Went, Settled, Chased, Heeded, Met, Varied, downTo, Stepped}
+use Rattle.unify.specs.Leaf.{rowsIn, kindsIn, memIn, rowIn, kindK, stepK, Classed, Caused, Signed, SameVar, Compared}
+use Rattle.unify.specs.Search.{seekIn, Sought, parts}
+use Rattle.unify.specs.Step.{Frame, Rec, resume, Parted, Enterable, Settled, Chased, Heeded, Met, Varied, downTo, Stepped}
 use Rattle.type_table.specs.Tables.{bound-at, mark-at}
 use Rattle.unify.specs.Bridge.{head-row, var-row, no-var-row, kids-row}
 use Rattle.unify.specs.Frames.{frame-same, frame-trans, held-on, rows-same, kinds-same, marking-frame, marking-mem, binding-frame, binding-mem}

@@ -1,7 +1,7 @@
 -- Unification: what each return and turn of each, into, uni and unify shows.
 use mathlib.Core.Path.{_≡_, refl, sym, ap, _∙_}
 use mathlib.Core.Logic.{_≢_}
-use mathlib.Core.List.{List, [], _∷_}
+use mathlib.Core.List.{List, _∷_}
 use mathlib.Core.Bool.{Bool, true, false, cond}
 use Prim.Native.Nat.{ℕ, suc, zero, _+_, _-_, _*_, _≤_, _<_}
 use native.Mathlib.Omega.{arith}
@@ -11,7 +11,7 @@ use lib.Dec.{eqb, ltb}
 use borrow.Author.Tests.{eq-eqb, ne-eqb, lt-ltb, le-ltb}
 use native.Mathlib.Decide.{decLt}
 use native.Mathlib.Nat.{mul-le-mul-left}
-use Rattle.theory.specs.Rules.{Out, success, mismatch, kindOrder, refused12, refused13, dry, Mem, Res, Pair, row, kids, split, zip, go, perform, each, onward, andThen, move, unify}
+use Rattle.theory.specs.Rules.{success, mismatch, dry, Mem, Res, row, kids, split, zip, go, perform, each, andThen, move, unify}
 use Rattle.type_table.specs.declared.Counts.{Counts}
 use Rattle.type_table.specs.declared.TypeId.{TypeId}
 use Rattle.type_table.specs.declared.InputRange.{InputRange}
@@ -24,9 +24,9 @@ use Rattle.unify.specs.declared.Reply.the-variants.{Success, Mismatch, K
 use Rattle.unify.specs.declared.Next.{Next}
 use Rattle.unify.specs.declared.Next.the-variants.{Done, On, Into}
 use Rattle.unify.specs.Leaf.{rowsIn, kindsIn, memIn, outK}
-use Rattle.unify.specs.Step.{Frame, Rec, resume, Parted, Enterable, Went, Stepped}
+use Rattle.unify.specs.Step.{Frame, Rec, resume, Parted, Stepped}
 use Rattle.unify.specs.Unify.{isSuccess, Ran, by, Unified, Entered, Eached, answerOf, answerIs, heldIn, solveIn, Solved}
-use Rattle.unify.specs.Frames.{frame-same, frame-trans, held-on, rows-same, kinds-same, inputs-same, first-same, count-same, output-same}
+use Rattle.unify.specs.Frames.{frame-same, frame-trans, held-on, rows-same, kinds-same, inputs-same}
 
 -- a success goes on
 goes-on : (a : Reply) (m : Mem) (f : Mem → Res) → isSuccess a ≡ true → andThen (outK a, m) f ≡ f m

@@ -1,20 +1,19 @@
 -- The memory's cells and the rules' tables: what an operation reads is what the rules read.
 use mathlib.Core.Path.{_≡_, refl, sym, ap, ap₂, _∙_}
-use mathlib.Core.Logic.{_≢_, _⊎_, inl, inr}
+use mathlib.Core.Logic.{_≢_}
 use mathlib.Core.List.{List, [], _∷_}
-use mathlib.Core.Option.{Option, none, some}
-use mathlib.Core.Bool.{Bool, true, false, _||_, cond}
+use mathlib.Core.Option.{none}
+use mathlib.Core.Bool.{Bool, true, false, _||_}
 use Prim.Native.Nat.{ℕ, suc, zero, _+_, _-_, _*_, _≤_, _<_}
 use native.Mathlib.Omega.{arith}
 use native.Mathlib.Decide.{ℕ-discrete, decLt}
-use lib.ListN.{getD, set, length, List·getD-eq-default}
 use lib.Dec.{eqb, ltb, leb}
-use borrow.Author.Tests.{eq-eqb, ne-eqb, le-leb, lt-leb, lt-ltb, le-ltb}
-use Rattle.theory.specs.Rules.{Width, w8, w16, w32, w64, Base, bool, nil, float, double, uint, int, inst, Shape, base, var, arr, ref, fn, fun, lam, err, div, head, kids, asVar, row, kind, bound, fits, baseFits, kindFits, isRegular, signed, alike, isYes, base-discrete, width-discrete, regular, integer, floating}
+use borrow.Author.Tests.{eq-eqb, ne-eqb, lt-ltb, le-ltb}
+use Rattle.theory.specs.Rules.{Width, w8, w16, w32, w64, Base, bool, nil, float, double, uint, int, inst, Shape, base, var, arr, ref, fn, fun, lam, err, div, head, kids, asVar, row, kind, fits, baseFits, kindFits, isRegular, signed, alike, isYes, base-discrete, width-discrete, regular, integer, floating}
 use Rattle.theory.specs.Rules.{Kind as KindT}
 use Rattle.type_table.specs.declared.Counts.{Counts}
 use Rattle.type_table.specs.declared.TypeId.{TypeId}
-use Rattle.type_table.specs.Memory.{pick, tab, headOf, headAt, numberAt, outputAt, firstAt, countAt, inputsFrom, widthOf, shapeOf, shapeAt, rowsOf, kindAt, kindsOf, bindingAt, bindsOf, markAt, marksOf, cell, rows-at}
+use Rattle.type_table.specs.Memory.{pick, headOf, headAt, numberAt, outputAt, firstAt, countAt, inputsFrom, widthOf, shapeOf, shapeAt, rowsOf, cell, rows-at}
 use Rattle.type_table.specs.Tables.{row-at}
 use Rattle.unify.specs.Leaf.{cap, code}
 use Rattle.unify.specs.Search.{parts}

@@ -1,26 +1,23 @@
 -- The end of a row's bindings: in sound tables `follow` ends at a row that is no bound variable, and every agreeing way gives both one type.
 use mathlib.Core.Path.{_≡_, refl, sym, ap, _∙_}
-use mathlib.Core.Logic.{_≢_}
-use mathlib.Core.List.{List, _∷_, []}
+use mathlib.Core.List.{List}
 use mathlib.Core.Option.{Option, none, some}
-use mathlib.Core.Bool.{Bool, true, false}
-use Prim.Native.Nat.{ℕ, suc, zero, _+_, _<_, _≤_}
+use Prim.Native.Nat.{ℕ, suc, zero, _+_, _<_}
 use native.Mathlib.Omega.{arith}
 use native.Mathlib.Decide.{ℕ-discrete}
-use lib.Dec.{eqb}
 use borrow.Author.Tests.{eq-eqb, ne-eqb}
-use Rattle.theory.specs.Rules.{var, row, bound, next, optList}
+use Rattle.theory.specs.Rules.{var, row, bound}
 use Rattle.theory.specs.Ways.{Way, den, Agrees}
 use Rattle.theory.specs.Meaning.{den-var}
 use Rattle.type_table.specs.declared.Counts.{Counts}
 use Rattle.type_table.specs.declared.TypeId.{TypeId}
 use Rattle.type_table.specs.declared.Bound.{Bound}
 use Rattle.type_table.specs.declared.Bound.the-variants.{To, Open}
-use Rattle.type_table.specs.Memory.{pick, headAt, numberAt, bindingAt}
+use Rattle.type_table.specs.Memory.{headAt, numberAt, bindingAt}
 use Rattle.type_table.specs.View.{type, variable, boundCode, boundIn, onwardIn, endBy, endFrom, endIn}
 use Rattle.type_table.specs.Tables.{bound-at, length-rows}
 use Rattle.type_table.specs.Sound.{Sound}
-use Rattle.unify.specs.Leaf.{rowsIn, kindsIn}
+use Rattle.unify.specs.Leaf.{rowsIn}
 use Rattle.unify.specs.Search.{bindsIn}
 use Rattle.unify.specs.Bridge.{var-row}
 
@@ -40,11 +37,11 @@ onward-bound m c x y e = by (ℕ-discrete (headAt m (c .types) x) 12)
 
     by : Dec (headAt m (c .types) x ≡ 12) → Onward m c x (y .0)
     by (yes h) =
-        record
-          { var-of = numberAt m (c .types) x
-          ; is-var = var-row m (c .types) x h
-          ; bound-to = bound-at m (c .vars) (numberAt m (c .types) x) ∙ code (bindingAt m (c .vars) (numberAt m (c .types) x)) (rw (eq-eqb (headAt m (c .types) x) 12 h) at e)
-          }
+        record {
+          var-of = numberAt m (c .types) x;
+          is-var = var-row m (c .types) x h;
+          bound-to = bound-at m (c .vars) (numberAt m (c .types) x) ∙ code (bindingAt m (c .vars) (numberAt m (c .types) x)) (rw (eq-eqb (headAt m (c .types) x) 12 h) at e);
+        }
     by (no n) = let g : Open ≡ To y = rw (ne-eqb (headAt m (c .types) x) 12 n) at e in absurd (let z : _≡_ {A = ℕ} 0 1 = cc in omega arith)
 
 module _ (m : List ℕ) (c : Counts) (sound : Sound m c) where

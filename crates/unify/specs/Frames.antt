@@ -1,22 +1,20 @@
 -- What a mark and a binding change in the memory, and what stays.
 use mathlib.Core.Path.{_≡_, refl, sym, ap, _∙_}
 use mathlib.Core.Logic.{_≢_}
-use mathlib.Core.List.{List, [], _∷_}
-use mathlib.Core.Option.{Option, none, some}
+use mathlib.Core.List.{List}
+use mathlib.Core.Option.{none, some}
 use mathlib.Core.Bool.{Bool, true, false}
 use Prim.Native.Nat.{ℕ, suc, zero, _+_, _*_, _≤_, _<_}
 use native.Mathlib.Omega.{arith}
 use native.Mathlib.Decide.{decLt, ℕ-discrete}
-use lib.ListN.{getD, set, length, length-set}
-use lib.Seq.{getD-set-same, getD-set-other, set-out}
-use lib.Dec.{eqb, ltb, leb}
-use borrow.Author.Tests.{eq-eqb, ne-eqb, lt-ltb, le-ltb, lt-leb, le-leb}
-use Rattle.theory.specs.Rules.{Mem, bind}
+use lib.ListN.{set, length-set}
+use lib.Seq.{getD-set-same, getD-set-other}
+use lib.Dec.{leb}
+use borrow.Author.Tests.{lt-ltb, le-ltb, lt-leb}
+use Rattle.theory.specs.Rules.{bind}
 use Rattle.type_table.specs.declared.Counts.{Counts}
-use Rattle.type_table.specs.declared.TypeId.{TypeId}
-use Rattle.type_table.specs.Memory.{pick, tab, cell, rows-at, inputs-at, rowCell, headAt, numberAt, outputAt, firstAt, countAt, inputsFrom, shapeOf, shapeAt, rowsOf, varCell, kindAt, kindsOf, bindingAt, bindsOf, markAt, marksOf, memOf, Held}
+use Rattle.type_table.specs.Memory.{pick, cell, rows-at, inputs-at, rowCell, headAt, numberAt, outputAt, firstAt, countAt, inputsFrom, shapeAt, rowsOf, kindAt, kindsOf, bindingAt, bindsOf, markAt, marksOf, memOf, Held}
 use Rattle.type_table.specs.Made.{marking, binding}
-use Rattle.unify.specs.Leaf.{rowsIn, kindsIn, memIn}
 use Rattle.unify.specs.Step.{Frame}
 use Rattle.type_table.specs.Tables.{tab-ext}
 use Rattle.type_table.specs.Keeps.{mark-binds, mark-marks, bind-mem}

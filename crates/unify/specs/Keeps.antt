@@ -9,23 +9,21 @@ use native.Mathlib.Omega.{arith}
 use native.Mathlib.Decide.{decLt, ℕ-discrete}
 use lib.ListN.{length}
 use lib.Seq.{ext-getD}
-use lib.Dec.{eqb, ltb, leb}
-use borrow.Author.Tests.{eq-eqb, ne-eqb, lt-ltb, le-ltb, lt-leb, le-leb}
-use Rattle.theory.specs.Rules.{Out, dry, Mem}
+use lib.Dec.{eqb}
+use borrow.Author.Tests.{eq-eqb, ne-eqb, lt-ltb, le-ltb, lt-leb}
+use Rattle.theory.specs.Rules.{Mem}
 use Rattle.theory.specs.Program.{clip}
-use Rattle.theory.specs.Graph.{Good}
 use Rattle.theory.specs.Keep.{KeptBy, Ended, solve-kept}
 use Rattle.type_table.specs.declared.Counts.{Counts}
 use Rattle.type_table.specs.declared.TypeId.{TypeId}
-use Rattle.type_table.specs.Memory.{pick, cell, cells, most-types, most-vars, counts, varCell, bindingAt, markAt, bindsOf, marksOf, memOf, Held}
+use Rattle.type_table.specs.Memory.{pick, cell, cells, most-types, most-vars, counts, bindingAt, markAt, bindsOf, memOf, Held}
 use Rattle.type_table.specs.Tables.{bound-at, mark-at, length-rows}
-use Rattle.type_table.specs.Sound.{Laid, Sound}
+use Rattle.type_table.specs.Sound.{Sound}
 use Rattle.type_table.specs.Keeps.{laid-held, low-sound}
 use Rattle.unify.specs.declared.Answer.{Answer}
 use Rattle.unify.specs.Leaf.{rowsIn, kindsIn, memIn}
-use Rattle.unify.specs.Step.{Frame}
-use Rattle.unify.specs.Unify.{answerIs, heldIn, solveIn, SolvedBy, Solved}
-use Rattle.unify.specs.Frames.{held-on, kinds-same}
+use Rattle.unify.specs.Unify.{heldIn, solveIn, SolvedBy, Solved}
+use Rattle.unify.specs.Frames.{kinds-same}
 
 -- ── sound tables ──
 

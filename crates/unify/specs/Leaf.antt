@@ -11,7 +11,7 @@ use Rattle.type_table.specs.declared.TypeId.{TypeId}
 use Rattle.type_table.specs.declared.VarId.{VarId}
 use Rattle.type_table.specs.declared.Kind.{Kind}
 use Rattle.type_table.specs.declared.Kind.the-variants.{Regular, Integer, Float}
-use Rattle.type_table.specs.Memory.{pick, rowsOf, kindsOf, bindsOf, memOf}
+use Rattle.type_table.specs.Memory.{pick, rowsOf, kindsOf, memOf}
 use Rattle.unify.specs.declared.Decision.{Decision}
 use Rattle.unify.specs.declared.Decision.the-variants.{Same, Compare, Left, Right, Down, Swap, Differ}
 use Rattle.unify.specs.declared.Reply.{Reply}

@@ -1,11 +1,10 @@
 -- What the answer of `unify` says of the ways that agree with the bindings in the memory.
-use mathlib.Core.Path.{_≡_, refl, sym, ap, _∙_}
+use mathlib.Core.Path.{_≡_, refl, ap}
 use mathlib.Core.Logic.{_↔_}
 use mathlib.Core.List.{List}
-use Prim.Native.Nat.{ℕ, _+_, _<_, _≤_}
-use native.Mathlib.Omega.{arith}
+use Prim.Native.Nat.{ℕ}
 use Rattle.theory.specs.Rules.{Out, success, mismatch, kindOrder, refused12, refused13, dry, Mem}
-use Rattle.theory.specs.Program.{clip, solve}
+use Rattle.theory.specs.Program.{clip}
 use Rattle.theory.specs.Ways.{Way, Kinded, Plain, den, Agrees, Failed}
 use Rattle.theory.specs.Sound.{Fair, success-exact, failed-none}
 use Rattle.theory.specs.Exist.{way, way-agrees, way-kinded}
@@ -16,7 +15,6 @@ use Rattle.type_table.specs.Memory.{bindsOf, memOf}
 use Rattle.type_table.specs.Sound.{Sound}
 use Rattle.unify.specs.declared.Answer.{Answer}
 use Rattle.unify.specs.declared.Answer.the-variants.{Success, Mismatch, Refused12, Refused13}
-use Rattle.unify.specs.declared.Cause.{Cause}
 use Rattle.unify.specs.declared.Cause.the-variants.{Other, KindOrder}
 use Rattle.unify.specs.Leaf.{rowsIn, kindsIn, memIn}
 use Rattle.unify.specs.Search.{bindsIn}

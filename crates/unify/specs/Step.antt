@@ -2,12 +2,12 @@
 use mathlib.Core.Path.{_≡_}
 use mathlib.Core.Logic.{_≢_}
 use mathlib.Core.List.{List, _∷_}
-use mathlib.Core.Bool.{Bool, true, false, not, _&&_}
-use mathlib.Core.Option.{Option, none, some}
+use mathlib.Core.Bool.{true, false, not, _&&_}
+use mathlib.Core.Option.{none}
 use Prim.Native.Nat.{ℕ, _+_, _*_, _<_}
 use lib.ListN.{length}
 use lib.Dec.{eqb}
-use Rattle.theory.specs.Rules.{Shape, Mem, Res, row, kind, asVar, kids, bound, fits, isSame, signed, split, atVar, perform, move, suits, other, heed, chase, settle}
+use Rattle.theory.specs.Rules.{Shape, Mem, Res, row, asVar, kids, bound, isSame, signed, split, atVar, perform, move, other, heed, chase, settle}
 use Rattle.theory.specs.Rules.{Kind as KindT}
 use Rattle.type_table.specs.declared.Counts.{Counts}
 use Rattle.type_table.specs.declared.TypeId.{TypeId}

@@ -1,8 +1,8 @@
 -- Unification in the memory: it does what the rules do, of every memory and whatever the numbers.
 use mathlib.Core.Path.{_≡_}
-use mathlib.Core.List.{List, _∷_}
-use mathlib.Core.Bool.{Bool, true, false, _||_}
-use Prim.Native.Nat.{ℕ, _<_}
+use mathlib.Core.List.{List}
+use mathlib.Core.Bool.{Bool, true, false}
+use Prim.Native.Nat.{ℕ}
 use lib.ListN.{length}
 use lib.Dec.{ltb}
 use Rattle.theory.specs.Rules.{Out, success, mismatch, kindOrder, refused12, refused13, dry, Res, row, kids, split, perform, each, zip, unify}
@@ -12,7 +12,6 @@ use Rattle.type_table.specs.declared.TypeId.{TypeId}
 use Rattle.type_table.specs.Memory.{pick, cells, most-types, most-vars, counts, inputsFrom, Held}
 use Rattle.unify.specs.declared.Answer.{Answer}
 use Rattle.unify.specs.declared.Answer.the-variants.{Success as Success·A, Mismatch as Mismatch·A, Refused12 as Refused12·A, Refused13 as Refused13·A}
-use Rattle.unify.specs.declared.Cause.{Cause}
 use Rattle.unify.specs.declared.Cause.the-variants.{Other, KindOrder as KindOrder·C}
 use Rattle.unify.specs.declared.Reply.{Reply}
 use Rattle.unify.specs.declared.Reply.the-variants.{Success, Mismatch, KindOrder, Refused12, Refused13, Dry}

@@ -3,74 +3,56 @@ use Rattle.unify.specs.Leaf.{code}
 use Rattle.unify.proofs.Laws.{code-other}
 use Rattle.unify.proofs.base_code.Statement.{statement}
 use Rattle.unify.proofs.base_code.Tie as tie
-use Rattle.unify.proofs.base_code.Reads as reads
-use Rattle.unify.proofs.base_code.Lts as lts
-use Rattle.unify.proofs.capped.Reads as capped-reads
 
--- src/lib.rt:202:14
 capped-requires : tie.Need-capped-requires
 capped-requires c κs = search needs
 
--- src/lib.rt:202:14
 cast-result : tie.Need-cast-result
 cast-result c = search needs
 
--- src/lib.rt:202:14
 add-result : tie.Need-add-result
 add-result c = search needs
 
--- src/lib.rt:203:14
 capped-requires-2 : tie.Need-capped-requires-2
 capped-requires-2 c κs = search needs
 
--- src/lib.rt:203:14
 cast-result-2 : tie.Need-cast-result-2
 cast-result-2 c = search needs
 
--- src/lib.rt:203:14
 add-result-2 : tie.Need-add-result-2
 add-result-2 c = search needs
 
--- src/lib.rt:206:14
 add-result-3 : tie.Need-add-result-3
 add-result-3 c = search needs
 
--- src/lib.rt:197:1
 returns : tie.Need-returns
 unfolding code
 returns c = rw ((c .match .keys1))
 
--- src/lib.rt:197:1
 returns-2 : tie.Need-returns-2
 unfolding code
 returns-2 c = rw ((c .before .match .keys2), ← (c .capped .ensures .0))
 
--- src/lib.rt:197:1
 returns-3 : tie.Need-returns-3
 unfolding code
 returns-3 c = rw ((c .before .match .keys3), ← (c .capped2 .ensures .0))
 
--- src/lib.rt:197:1
 returns-4 : tie.Need-returns-4
 unfolding code
 returns-4 c = rw ((c .match .keys4))
 
--- src/lib.rt:197:1
 returns-5 : tie.Need-returns-5
 unfolding code
 returns-5 c = rw ((c .match .keys5))
 
--- src/lib.rt:197:1
 returns-6 : tie.Need-returns-6
 unfolding code
 returns-6 c = rw ((c .match .keys6))
 
--- src/lib.rt:197:1
 returns-7 : tie.Need-returns-7
 unfolding code
 returns-7 c = rw ((c .match .keys7))
 
--- src/lib.rt:197:1
 returns-8 : tie.Need-returns-8
 returns-8 c = code-other _ _ (c .match .rest)
 
