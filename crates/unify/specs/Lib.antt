@@ -7,3 +7,4 @@ pub mod Frames
 pub mod Keeps
 pub mod Meaning
 pub mod Follow
+pub mod Claims
