@@ -15,3 +15,4 @@ pub mod Start
 pub mod Solve
 pub mod Pool
 pub mod Claims
+pub mod Example
