@@ -138,6 +138,15 @@ choose e g =
 pub data Out : Type 0 where
   success mismatch kindOrder refused12 refused13 dry : Out
 
+-- document 01's numbers of a result: Check's answer, and the CAUSE of an error row
+abbrev pub numbersOf : Out → ℕ × ℕ
+numbersOf success = (0, 0)
+numbersOf mismatch = (0, 1)
+numbersOf kindOrder = (0, 2)
+numbersOf refused12 = (12, 0)
+numbersOf refused13 = (13, 0)
+numbersOf dry = (12, 0)
+
 -- what unification changes: a binding or none for each variable, and the negation marks
 pub record Mem : Type 0 where
   pub binds : List (Option ℕ)

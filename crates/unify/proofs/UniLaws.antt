@@ -11,7 +11,7 @@ use lib.Dec.{eqb, ltb}
 use borrow.Author.Tests.{eq-eqb, ne-eqb, lt-ltb, le-ltb}
 use native.Mathlib.Decide.{decLt}
 use native.Mathlib.Nat.{mul-le-mul-left}
-use Rattle.theory.specs.Rules.{success, mismatch, dry, Mem, Res, row, kids, split, zip, go, perform, each, andThen, move, unify}
+use Rattle.theory.specs.Rules.{success, mismatch, dry, numbersOf, Mem, Res, row, kids, split, zip, go, perform, each, andThen, move, unify}
 use Rattle.type_table.specs.declared.Counts.{Counts}
 use Rattle.type_table.specs.declared.TypeId.{TypeId}
 use Rattle.type_table.specs.declared.InputRange.{InputRange}
@@ -25,7 +25,7 @@ use Rattle.unify.specs.declared.Next.{Next}
 use Rattle.unify.specs.declared.Next.the-variants.{Done, On, Into}
 use Rattle.unify.specs.Leaf.{rowsIn, kindsIn, memIn, outK}
 use Rattle.unify.specs.Step.{Frame, Rec, resume, Parted, Stepped}
-use Rattle.unify.specs.Unify.{isSuccess, Ran, by, Unified, Entered, Eached, answerOf, answerIs, heldIn, solveIn, Solved}
+use Rattle.unify.specs.Unify.{isSuccess, Ran, by, Unified, Entered, Eached, answerOf, answerIs, numbers, heldIn, solveIn, Solved}
 use Rattle.unify.specs.Frames.{frame-same, frame-trans, held-on, rows-same, kinds-same, inputs-same}
 
 -- a success goes on
@@ -234,6 +234,14 @@ answer-is Refused12 = refl
 answer-is Refused13 = refl
 answer-is Dry = refl
 
+number-is : (a : Reply) → numbers (answerOf a) ≡ numbersOf (outK a)
+number-is Success = refl
+number-is Mismatch = refl
+number-is KindOrder = refl
+number-is Refused12 = refl
+number-is Refused13 = refl
+number-is Dry = refl
+
 module _ (m : List ℕ) (c d : Counts) (x y e g : TypeId) (pd : d ≡ heldIn m c) (pe : e .0 ≡ clip (d .types) (x .0)) (pg : g .0 ≡ clip (d .types) (y .0)) where
   steps : fuel (rowsIn m d) (memIn m d) ≡ d .vars * (d .types + d .types + 1) + (d .types + d .types) + 1
   unfolding memOf
@@ -241,7 +249,7 @@ module _ (m : List ℕ) (c d : Counts) (x y e g : TypeId) (pd : d ≡ heldIn m c
 
   pub unify-solved : (w : List ℕ) (a : Reply) (r : Answer) → Unified m d e g (d .vars * (d .types + d .types + 1) + (d .types + d .types) + 1) w a → r ≡ answerOf a → Solved m c x y w r
   unfolding solveIn solve
-  unify-solved w a r u q = rw (← pd) (record { frame = (run .0); answer = q ∙ answer-is a ∙ ap (λ (z : Res). answerIs (z .0)) (sym told); memory = ap (λ (z : Res). z .1) (sym told) })
+  unify-solved w a r u q = rw (← pd) (record { frame = (run .0); answer = q ∙ answer-is a ∙ ap (λ (z : Res). answerIs (z .0)) (sym told); number = ap numbers q ∙ number-is a ∙ ap (λ (z : Res). numbersOf (z .0)) (sym told); memory = ap (λ (z : Res). z .1) (sym told) })
     where
       run : Ran m d w a (by m d (d .vars * (d .types + d .types + 1) + (d .types + d .types) + 1) (memIn m d) (e .0) (g .0))
       run = u (rw pd (held-is m c))

@@ -88,12 +88,12 @@ module _ {X Er A : Type 0} (rows : List Shape) (own : X) (p : Prog X Er A) (test
 
   -- answered without an error or refusal: a way meets all the equations exactly when it agrees with the bindings, and one such way exists
   pub demand-3-without-error : final .errs ≡ [] → final .stop ≡ none → All (Sided (final .rows)) (final .log)
-    → ((w : Way) → Kinded (final .kinds) w → All (Meets (final .rows) w) (final .log) ↔ Agrees (final .rows) (final .mem .binds) w) × ((w : Way) × Kinded (final .kinds) w × All (Meets (final .rows) w) (final .log))
+      → ((w : Way) → Kinded (final .kinds) w → All (Meets (final .rows) w) (final .log) ↔ Agrees (final .rows) (final .mem .binds) w) × ((w : Way) × Kinded (final .kinds) w × All (Meets (final .rows) w) (final .log))
   demand-3-without-error = rules.demand-3-without-error rows own p test
 
   -- whatever the answer: no way meets the equations up to and including the first that failed with cause 1 or was refused 12
   pub demand-3-first-failure : (after before : List Equation) (q : Equation) → final .log ≡ after ++ q ∷ before → Failed (q .answer) → All Went before → All (Sided (final .rows)) (q ∷ before)
-    → (w : Way) → Kinded (final .kinds) w → All (Meets (final .rows) w) (q ∷ before) → ⊥
+      → (w : Way) → Kinded (final .kinds) w → All (Meets (final .rows) w) (q ∷ before) → ⊥
   demand-3-first-failure = rules.demand-3-first-failure rows own p test
 
 -- ── 6. a list of equations by itself ──

@@ -5,7 +5,7 @@ use mathlib.Core.Bool.{Bool, true, false}
 use Prim.Native.Nat.{ℕ}
 use lib.ListN.{length}
 use lib.Dec.{ltb}
-use Rattle.theory.specs.Rules.{Out, success, mismatch, kindOrder, refused12, refused13, dry, Res, row, kids, split, perform, each, zip, unify}
+use Rattle.theory.specs.Rules.{Out, success, mismatch, kindOrder, refused12, refused13, dry, numbersOf, Res, row, kids, split, perform, each, zip, unify}
 use Rattle.theory.specs.Program.{clip, solve}
 use Rattle.type_table.specs.declared.Counts.{Counts}
 use Rattle.type_table.specs.declared.TypeId.{TypeId}
@@ -62,7 +62,7 @@ answerIs refused12 = Refused12·A
 answerIs refused13 = Refused13·A
 answerIs dry = Refused12·A
 
--- document 01's numbers: Check's answer, and the CAUSE of an error row
+-- document 01's numbers of an answer: Check's answer, and the CAUSE of an error row
 abbrev pub numbers : Answer → ℕ × ℕ
 numbers Success·A = (0, 0)
 numbers (Mismatch·A Other) = (0, 1)
@@ -82,6 +82,7 @@ solveIn m c x y = solve (rowsIn m c) (kindsIn m c) (memIn m c) (clip (c .types) 
 pub record SolvedBy (m : List ℕ) (c : Counts) (x y : TypeId) (w : List ℕ) (r : Answer) : Type 0 where
   pub frame : Frame m c w
   pub answer : r ≡ answerIs ((solveIn m c (x .0) (y .0)) .0)
+  pub number : numbers r ≡ numbersOf ((solveIn m c (x .0) (y .0)) .0)
   pub memory : memIn w c ≡ (solveIn m c (x .0) (y .0)) .1
 
 abbrev pub Solved : List ℕ → Counts → TypeId → TypeId → List ℕ → Answer → Type 0
