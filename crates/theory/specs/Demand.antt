@@ -199,7 +199,8 @@ blank-claim rows kinds b lower some-row sized none-bound meant =
 
 -- ── programs ──
 
-read-past : (b : List (Option ℕ)) (v : ℕ) → bound (b ++ none ∷ []) v ≡ bound b v
+-- a new variable is open, and the others read as before
+pub read-past : (b : List (Option ℕ)) (v : ℕ) → bound (b ++ none ∷ []) v ≡ bound b v
 read-past [] zero = refl
 read-past [] (suc v) = refl
 read-past (o ∷ b) zero = refl
@@ -217,7 +218,8 @@ no-var (some v) e = cc
 pub sane-facts : (n : ℕ) (t : Shape) → sane n t ≡ true → (asVar t ≡ none) × All (λ (y : ℕ). y < n) (kids t)
 sane-facts n t e = let h = and-both (noVar (asVar t)) (allBelow n (kids t)) e in (no-var (asVar t) (h .0), below-all n (kids t) (h .1))
 
-clip-in : (n x : ℕ) → 0 < n → clip n x < n
+-- a clipped number is a row's
+pub clip-in : (n x : ℕ) → 0 < n → clip n x < n
 clip-in n x h = by (ltb x n) refl
   where
     by : (c : Bool) → ltb x n ≡ c → cond c x 0 < n

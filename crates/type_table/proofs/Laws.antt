@@ -1,14 +1,13 @@
 -- What each return of an operation shows, over plain variables.
-use mathlib.Core.Path.{_≡_, refl, sym, ap}
+use mathlib.Core.Path.{_≡_, refl}
 use mathlib.Core.List.{List}
-use mathlib.Core.Option.{none, some}
 use Prim.Native.Nat.{ℕ, suc, zero, _+_, _-_, _*_, _≤_, _<_}
 use native.Mathlib.Omega.{arith}
-use lib.ListN.{set, getD}
+use lib.ListN.{set, getD, length}
 use native.Mathlib.Numerals.{add-one}
+use Rattle.theory.specs.Program.{clip}
 use Rattle.type_table.specs.declared.NodeId.{NodeId}
-use lib.Dec.{eqb}
-use borrow.Author.Tests.{eq-eqb, ne-eqb, le-leb, lt-leb, lt-ltb, le-ltb}
+use borrow.Author.Tests.{ne-eqb, le-leb, lt-leb, lt-ltb, le-ltb}
 use Rattle.type_table.specs.declared.Counts.{Counts}
 use Rattle.type_table.specs.declared.TypeId.{TypeId}
 use Rattle.type_table.specs.declared.VarId.{VarId}
@@ -22,9 +21,9 @@ use Rattle.type_table.specs.declared.Bound.the-variants.{To, Open}
 use Rattle.type_table.specs.declared.Width.the-variants.{W64}
 use Rattle.type_table.specs.declared.Row.{Row}
 use Rattle.type_table.specs.declared.Row.the-variants.{Nil}
-use Rattle.type_table.specs.Memory.{pick, cell, rows-at, headAt, rowCell, numberAt, outputAt, firstAt, countAt, varCell, bindingAt, counts}
-use Rattle.type_table.specs.View.{type, variable, node, range, kindCode, originCode, originIn, boundCode, boundIn, widthCode, viewOf, viewIn, onwardIn, endFrom, endIn}
-use Rattle.type_table.specs.Made.{marking, binding, kindNumber, originNumber, rowWritten, varWritten, Making, making, pushed, drawIn, poolCell, appendIn, enterIn, internIn, internOf, pushIn, fixed-heads, fixed-widths, fixedRows, startIn}
+use Rattle.type_table.specs.Memory.{cell, rows-at, headAt, rowCell, numberAt, outputAt, firstAt, countAt, varCell, bindingAt, counts}
+use Rattle.type_table.specs.View.{type, variable, node, kindCode, originCode, originIn, boundIn, widthCode, viewOf, viewIn, onwardIn, endFrom, endIn}
+use Rattle.type_table.specs.Made.{marking, binding, kindNumber, originNumber, rowWritten, varWritten, Making, making, pushed, drawIn, poolCell, appendIn, enterIn, internIn, internOf, partsIn, pushIn, fixed-heads, fixed-widths, fixedRows, pool-cells, cleared, startIn}
 
 -- ── rows ──
 
@@ -137,6 +136,12 @@ module _ (m : List ℕ) (c : Counts) (x : TypeId) where
 
 -- ── drawing and making ──
 
+pub clip-in : (n x : ℕ) → x < n → x ≡ clip n x
+clip-in n x h = rw (lt-ltb x n h)
+
+pub clip-out : (n x : ℕ) → n ≤ x → 0 ≡ clip n x
+clip-out n x h = rw (le-ltb x n h)
+
 pub origin-in : (o : Origin) (n : NodeId) → o ≡ Node n → n .0 < 65535 → n .0 + 1 ≡ originNumber o
 origin-in o n e h = rw (e, lt-ltb (n .0) 65535 h)
 
@@ -241,9 +246,21 @@ module _ (m : List ℕ) (c : Counts) where
   unfolding pushIn
   push-full x h = rw (le-leb 9216 (c .inputs) h)
 
-  pub push-new : (x : ℕ) (w : List ℕ) → c .inputs < 9216 → w ≡ set m (28230 + c .inputs) x → pushed (counts (c .types) (c .vars) (c .inputs + 1)) w ≡ pushIn m c x
+  pub push-new : (x b : ℕ) (w : List ℕ) → c .inputs < 9216 → b ≡ clip (c .types) x → w ≡ set m (28230 + c .inputs) b → pushed (counts (c .types) (c .vars) (c .inputs + 1)) w ≡ pushIn m c x
   unfolding pushIn
-  push-new x w h p = rw (lt-leb 9216 (c .inputs) h, ← p)
+  push-new x b w h q p = rw (lt-leb 9216 (c .inputs) h, ← q, ← p)
+
+  pub parts-no-row : (h a o f k : ℕ) → c .types ≤ o → making c 0 m ≡ partsIn m c h a o f k
+  unfolding partsIn
+  parts-no-row h a o f k l = rw (le-leb (c .types) o l)
+
+  pub parts-no-inputs : (h a o f k : ℕ) → o < c .types → c .inputs < f + k → making c 0 m ≡ partsIn m c h a o f k
+  unfolding partsIn
+  parts-no-inputs h a o f k l i = rw (lt-leb (c .types) o l, lt-ltb (c .inputs) (f + k) i)
+
+  pub parts-new : (h a o f k : ℕ) (r : Making) → o < c .types → f + k ≤ c .inputs → r ≡ appendIn m c h a o f k → r ≡ partsIn m c h a o f k
+  unfolding partsIn
+  parts-new h a o f k r l i p = rw (lt-leb (c .types) o l, le-ltb (c .inputs) (f + k) i) p
 
   -- ── the end of the bindings ──
 
@@ -268,6 +285,18 @@ pub fixed-more : (m u w : List ℕ) (x h a : ℕ) → u ≡ fixedRows m x → h 
 unfolding fixedRows
 fixed-more m u w x h a p q r s = rw (add-one, ← p, ← q, ← r) s
 
-pub fixed-all : (m u : List ℕ) (x : ℕ) → u ≡ fixedRows m x → x ≤ 14 → 14 ≤ x → pushed (counts 14 0 0) u ≡ startIn m
+pub fixed-all : (m m₀ u : List ℕ) (x : ℕ) → 47010 ≤ length m → m₀ ≡ cleared m pool-cells → u ≡ fixedRows m₀ x → x ≤ 14 → 14 ≤ x → pushed (counts 14 0 0) u ≡ startIn m
 unfolding startIn
-fixed-all m u x p h l = let e : x ≡ 14 = omega arith in rw (p, e)
+fixed-all m m₀ u x k q p h l = let e : x ≡ 14 = omega arith in rw (le-ltb (length m) 47010 k, ← q, p, e)
+
+pub start-short : (m : List ℕ) → length m < 47010 → pushed (counts 0 0 0) m ≡ startIn m
+unfolding startIn
+start-short m h = rw (lt-ltb (length m) 47010 h)
+
+-- one cell more is 0
+pub cleared-more : (m u w : List ℕ) (i : ℕ) → 37446 ≤ i → u ≡ cleared m (i - 37446) → w ≡ set u i 0 → w ≡ cleared m (i + 1 - 37446)
+unfolding cleared
+cleared-more m u w i h p q = let e : i + 1 - 37446 ≡ suc (i - 37446) = omega arith in let f : 37446 + (i - 37446) ≡ i = omega arith in rw (e, f, ← p) q
+
+pub cleared-all : (m u : List ℕ) (i : ℕ) → u ≡ cleared m (i - 37446) → i ≤ 47010 → 47010 ≤ i → u ≡ cleared m pool-cells
+cleared-all m u i p h l = let e : i - 37446 ≡ 9564 = omega arith in rw (← e) p

@@ -1,19 +1,19 @@
 -- What the stores change in a memory's tables, and what they keep.
-use mathlib.Core.Path.{_≡_, refl, ap}
+use mathlib.Core.Path.{_≡_, refl, ap, _∙_}
 use mathlib.Core.Logic.{_≢_}
 use mathlib.Core.List.{List, [], _∷_, _++_}
 use mathlib.Core.Option.{none, some}
 use mathlib.Core.Bool.{true, false}
 use Prim.Native.Nat.{ℕ, suc, zero, _+_, _*_, _≤_, _<_}
 use native.Mathlib.Omega.{arith}
-use native.Mathlib.Decide.{decLt}
+use native.Mathlib.Decide.{ℕ-discrete, decLt}
 use native.Mathlib.Numerals.{add-one}
 use lib.ListN.{set, length, length-set}
 use lib.Seq.{getD-set-same, getD-set-other}
-use lib.Dec.{eqb, ltb}
-use borrow.Author.Tests.{lt-leb, lt-ltb, le-ltb}
-use Rattle.type_table.specs.Memory.{pick, most-types, cell, rows-at, inputs-at, rowCell, headAt, numberAt, outputAt, firstAt, countAt, inputsFrom, shapeOf, shapeAt, rowsOf, varCell, kindOf, kindAt, kindsOf, numbered, originAt, originsOf, bindingAt, bindsOf, markAt, marksOf}
-use Rattle.type_table.specs.Made.{rowWritten, varWritten}
+use lib.Dec.{eqb, ltb, leb}
+use borrow.Author.Tests.{le-leb, lt-leb, lt-ltb, le-ltb}
+use Rattle.type_table.specs.Memory.{pick, most-types, cell, rows-at, inputs-at, arrays-at, rowCell, headAt, numberAt, outputAt, firstAt, countAt, inputsFrom, shapeOf, shapeAt, rowsOf, varCell, kindOf, kindAt, kindsOf, numbered, originAt, originsOf, bindingAt, bindsOf, markAt, marksOf}
+use Rattle.type_table.specs.Made.{rowWritten, varWritten, cleared}
 use Rattle.type_table.specs.Tables.{tab-ext, tab-set, tab-grow}
 use Rattle.type_table.specs.Sound.{InputsBelow}
 
@@ -56,6 +56,14 @@ below-cases P v n a b f g = by (decLt v n)
     by : Dec (v < n) → P (pick (ltb v n) a b)
     by (yes h) = rw (lt-ltb v n h) (f h)
     by (no h) = let l : n ≤ v = omega arith in rw (le-ltb v n l) (g l)
+
+-- a value that is chosen where a limit is reached
+pub limit-cases : {A : Type 0} (P : A → Type 0) (n v : ℕ) (a b : A) → (n ≤ v → P a) → (v < n → P b) → P (pick (leb n v) a b)
+limit-cases P n v a b f g = by (decLt v n)
+  where
+    by : Dec (v < n) → P (pick (leb n v) a b)
+    by (yes h) = rw (lt-leb n v h) (g h)
+    by (no h) = let l : n ≤ v = omega arith in rw (le-leb n v l) (f l)
 
 -- ── five cells ──
 
@@ -340,3 +348,21 @@ module _ (m : List ℕ) (n v : ℕ) (room : n * 5 ≤ length m) where
       tab-set (λ x. pick (eqb (varCell m n x 2) 1) (some (varCell m n x 3)) none) (λ x. pick (eqb (varCell m₂ n x 2) 1) (some (varCell m₂ n x 3)) none) n v (some z)
       (λ x h q. rw (cell-other m₁ v 3 z (omega arith) n 2 (omega arith) (λ r. omega arith) x h, var-other m v 2 1 (omega arith) x q, var-other m₁ v 3 z (omega arith) x q, cell-other m v 2 1 (omega arith) n 3 (omega arith) (λ r. omega arith) x h))
       (λ h. rw (lt-leb n v h, cell-other m₁ v 3 z (omega arith) n 2 (omega arith) (λ r. omega arith) v h, getD-set-same m (v * 5 + 2) 1 0 (omega arith), getD-set-same m₁ (v * 5 + 3) z 0 (simp length-set (omega arith))))
+
+-- ── the pool is cleared ──
+
+-- the memory has its length
+pub cleared-length : (m : List ℕ) (k : ℕ) → length (cleared m k) ≡ length m
+unfolding cleared
+cleared-length m zero = refl
+cleared-length m (suc k) = length-set (cleared m k) (arrays-at + k) 0 ∙ cleared-length m k
+
+-- a cleared cell is 0
+pub cleared-cell : (m : List ℕ) (k j : ℕ) → arrays-at ≤ j → j < arrays-at + k → j < length m → cell (cleared m k) j ≡ 0
+unfolding cleared
+cleared-cell m zero j l r h = absurd (omega arith)
+cleared-cell m (suc k) j l r h = by (ℕ-discrete j (arrays-at + k)) (λ q. cleared-cell m k j l q h)
+  where
+    by : Dec (j ≡ arrays-at + k) → (j < arrays-at + k → cell (cleared m k) j ≡ 0) → cell (set (cleared m k) (arrays-at + k) 0) j ≡ 0
+    by (yes e) f = rw e (getD-set-same (cleared m k) (arrays-at + k) 0 0 (omega (arith, cleared-length m k)))
+    by (no n) f = getD-set-other (cleared m k) (arrays-at + k) j 0 0 n ∙ f (omega arith)

@@ -13,10 +13,10 @@ use Rattle.theory.specs.Basics.{All, clash}
 use Rattle.theory.specs.Lift.{lower-on, good-on}
 use Rattle.theory.specs.Demand.{sane-facts}
 use Rattle.type_table.specs.declared.Counts.{Counts}
-use Rattle.type_table.specs.Memory.{most-types, most-vars, rows-at, arrays-at, cells, counts, firstAt, countAt, inputsFrom, shapeOf, rowsOf, kindsOf, originsOf, bindsOf, marksOf, memOf}
+use Rattle.type_table.specs.Memory.{most-types, most-vars, rows-at, inputs-at, arrays-at, cells, counts, firstAt, countAt, inputsFrom, shapeOf, rowsOf, kindsOf, originsOf, bindsOf, marksOf, memOf}
 use Rattle.type_table.specs.Made.{rowWritten, poolCell}
 use Rattle.type_table.specs.Tables.{length-rows}
-use Rattle.type_table.specs.Sound.{InputsBelow, PoolNames, SameInputs, Laid, Sound, stateOf}
+use Rattle.type_table.specs.Sound.{InputsBelow, InputRows, PoolNames, SameInputs, Laid, Sound, stateOf}
 use Rattle.type_table.specs.Pool.{in-pool, pool-range}
 use Rattle.type_table.specs.Frames.{SameIn, SameRows, inputs-same, rows-grow, below-kept, row-length, row-below, row-above, row-inputs, row-shape, SameVars, kinds-kept, origins-kept, binds-kept, marks-kept}
 
@@ -70,6 +70,10 @@ module _ {m u : List ℕ} {n i : ℕ} (ready : Ready m u n i) (h a o f k : ℕ) 
       by : Dec (x ≡ n) → firstAt (rowWritten u n h a o f k) (n + 1) x + countAt (rowWritten u n h a o f k) (n + 1) x ≤ i
       by (yes e) = rw e (row-inputs u n h a o f k row-room i inputs)
       by (no e) = below-kept m (rowWritten u n h a o f k) n i (ready .below) written-same (n + 1) (omega arith) x (omega arith)
+
+  -- the inputs name rows
+  pub written-named : InputRows m n i → InputRows (rowWritten u n h a o f k) (n + 1) i
+  written-named named j l = rw (written-same .inputs (inputs-at + j) (omega arith) (omega arith)) (omega (arith, named j l))
 
   -- the pool stays
   pub written-pool : (rows : List Shape) → PoolNames u rows → PoolNames (rowWritten u n h a o f k) rows
@@ -127,6 +131,7 @@ module _ {m : List ℕ} {c : Counts} (laid : Laid m c) (u : List ℕ) (low : Sam
           inputs = laid .inputs;
           fixed = omega (arith, laid .fixed);
           below = written-below ready h a o f k head inputs;
+          named = written-named ready h a o f k head inputs (laid .named);
           pooled = rw rows-more (written-pool ready h a o f k head inputs (rowsOf m (c .types) ++ typeOf m h a o f k ∷ []) pool);
         }
 

@@ -7,3 +7,5 @@ pub mod Pool
 pub mod Frames
 pub mod Grow
 pub mod Keeps
+pub mod Reads
+pub mod Promises

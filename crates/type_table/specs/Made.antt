@@ -1,18 +1,17 @@
 -- What the writing operations leave in the memory and answer.
 use mathlib.Core.List.{List, [], _∷_}
 use Prim.Native.Nat.{ℕ, suc, zero, _+_, _-_, _*_}
-use mathlib.Core.Bool.{Bool}
-use lib.ListN.{getD, set}
+use lib.ListN.{getD, set, length}
 use lib.Dec.{eqb, ltb, leb}
 use Rattle.theory.specs.Rules.{infer-head}
+use Rattle.theory.specs.Program.{clip}
 use Rattle.type_table.specs.declared.Counts.{Counts}
 use Rattle.type_table.specs.declared.Made.{Made}
-use Rattle.type_table.specs.declared.NodeId.{NodeId}
 use Rattle.type_table.specs.declared.Kind.{Kind}
 use Rattle.type_table.specs.declared.Kind.the-variants.{Regular, Integer, Float}
 use Rattle.type_table.specs.declared.Origin.{Origin}
 use Rattle.type_table.specs.declared.Origin.the-variants.{Node, Literal}
-use Rattle.type_table.specs.Memory.{pick, cell, counts, most-types, most-vars, most-inputs, rows-at, inputs-at, arrays-at, refs-at, defs-at, instances-at}
+use Rattle.type_table.specs.Memory.{pick, cell, counts, most-types, most-vars, most-inputs, rows-at, inputs-at, arrays-at, refs-at, defs-at, instances-at, cells}
 
 -- a mark is set
 unfoldable pub marking : List ℕ → ℕ → ℕ → List ℕ
@@ -22,6 +21,7 @@ marking m n v = pick (ltb v n) (set m (v * 5 + 4) 1) m
 unfoldable pub binding : List ℕ → ℕ → ℕ → ℕ → List ℕ
 binding m n v z = pick (ltb v n) (set (set m (v * 5 + 2) 1) (v * 5 + 3) z) m
 
+-- the number that stands for a kind
 abbrev pub kindNumber : Kind → ℕ
 kindNumber Regular = 0
 kindNumber Integer = 1
@@ -50,9 +50,11 @@ pub record Making : Type 0 where
   pub ty : ℕ
   pub memory : List ℕ
 
+-- these counts, this type and this memory
 abbrev pub making : Counts → ℕ → List ℕ → Making
 making c x m = record { counts = c; ty = x; memory = m }
 
+-- the answer of an operation, with the memory that it leaves
 abbrev pub made : Made → List ℕ → Making
 made r m = making (r .counts) (r .ty .0) m
 
@@ -61,6 +63,7 @@ pub record Counting : Type 0 where
   pub counts : Counts
   pub memory : List ℕ
 
+-- these counts and this memory
 abbrev pub pushed : Counts → List ℕ → Counting
 pushed c m = record { counts = c; memory = m }
 
@@ -101,14 +104,31 @@ internIn m c h a =
 unfoldable pub internOf : List ℕ → Counts → ℕ → ℕ → Making
 internOf m c h e = pick (ltb e (c .types)) (internIn m c h e) (making c 0 m)
 
--- one more input
+-- a new row of a head that has an output and inputs; nothing changes where the output is no row or not all inputs are there
+unfoldable pub partsIn : List ℕ → Counts → ℕ → ℕ → ℕ → ℕ → ℕ → Making
+partsIn m c h a o f k =
+    pick (leb (c .types) o) (making c 0 m)
+    (pick (ltb (c .inputs) (f + k)) (making c 0 m)
+    (appendIn m c h a o f k))
+
+-- one more input; what is no row is pushed as row 0
 unfoldable pub pushIn : List ℕ → Counts → ℕ → Counting
-pushIn m c x = pick (leb most-inputs (c .inputs)) (pushed c m) (pushed (counts (c .types) (c .vars) (c .inputs + 1)) (set m (inputs-at + c .inputs) x))
+pushIn m c x = pick (leb most-inputs (c .inputs)) (pushed c m) (pushed (counts (c .types) (c .vars) (c .inputs + 1)) (set m (inputs-at + c .inputs) (clip (c .types) x)))
+
+-- how many cells the pool has
+abbrev pub pool-cells : ℕ
+pool-cells = 9564
+
+-- k cells from the pool's first on are 0
+unfoldable pub cleared : List ℕ → ℕ → List ℕ
+cleared m zero = m
+cleared m (suc k) = set (cleared m k) (arrays-at + k) 0
 
 -- the fields of `Types` by head, and their widths
 abbrev pub fixed-heads : List ℕ
 fixed-heads = 9 ∷ 0 ∷ 1 ∷ 1 ∷ 1 ∷ 1 ∷ 2 ∷ 2 ∷ 2 ∷ 2 ∷ 3 ∷ 4 ∷ 10 ∷ 11 ∷ []
 
+-- the widths of these types
 abbrev pub fixed-widths : List ℕ
 fixed-widths = 0 ∷ 0 ∷ 0 ∷ 1 ∷ 2 ∷ 3 ∷ 0 ∷ 1 ∷ 2 ∷ 3 ∷ 0 ∷ 0 ∷ 0 ∷ 0 ∷ []
 
@@ -117,5 +137,6 @@ unfoldable pub fixedRows : List ℕ → ℕ → List ℕ
 fixedRows m zero = m
 fixedRows m (suc x) = rowWritten (fixedRows m x) x (getD fixed-heads x 0) (getD fixed-widths x 0) 0 0 0
 
+-- the fixed types and an empty pool; a memory that is too short stays as it is, with no row
 unfoldable pub startIn : List ℕ → Counting
-startIn m = pushed (counts 14 0 0) (fixedRows m 14)
+startIn m = pick (ltb (length m) cells) (pushed (counts 0 0 0) m) (pushed (counts 14 0 0) (fixedRows (cleared m pool-cells) 14))

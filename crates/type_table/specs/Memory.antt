@@ -2,12 +2,13 @@
 use mathlib.Core.List.{List, [], _∷_}
 use mathlib.Core.Option.{Option, none, some}
 use mathlib.Core.Bool.{Bool, true, false}
-use Prim.Native.Nat.{ℕ, suc, zero, _+_, _*_, _≤_, _<_}
+use Prim.Native.Nat.{ℕ, suc, zero, _+_, _*_, _≤_}
 use lib.ListN.{getD, length}
 use lib.Dec.{eqb, ltb, leb}
 use Rattle.theory.specs.Rules.{Width, w8, w16, w32, w64, bool, nil, float, double, uint, int, inst, Shape, base, var, arr, ref, fn, fun, lam, err, div, Kind, regular, integer, floating, Mem}
 use Rattle.type_table.specs.declared.Counts.{Counts}
 
+-- the first of two values, or the second
 abbrev pub pick {ℓ} : {A : Type ℓ} → Bool → A → A → A
 pick true a b = a
 pick false a b = b
@@ -39,16 +40,19 @@ rows-at = 5120
 abbrev pub inputs-at : ℕ
 inputs-at = 28230
 
--- then, for each row, the first array of it; the first reference to it; for each definition and each instance its first row
+-- the pool lies behind the inputs: for each row, the first array of it
 abbrev pub arrays-at : ℕ
 arrays-at = 37446
 
+-- for each row, the first reference to it
 abbrev pub refs-at : ℕ
 refs-at = 42068
 
+-- for each definition, its first row
 abbrev pub defs-at : ℕ
 defs-at = 46690
 
+-- for each instance, its first row
 abbrev pub instances-at : ℕ
 instances-at = 46946
 
@@ -58,6 +62,7 @@ cells = 47010
 
 -- ── rows: head, number, output, first input, count ──
 
+-- a cell, 0 past the end
 abbrev pub cell : List ℕ → ℕ → ℕ
 cell m i = getD m i 0
 
@@ -69,18 +74,23 @@ headOf h = pick (ltb h 15) h 9
 abbrev pub rowCell : List ℕ → ℕ → ℕ → ℕ → ℕ
 rowCell m n x k = pick (leb n x) 0 (cell m (rows-at + x * 5 + k))
 
+-- the head of the row x; that of Nil for what is no row
 unfoldable pub headAt : List ℕ → ℕ → ℕ → ℕ
 headAt m n x = pick (leb n x) 9 (headOf (cell m (rows-at + x * 5)))
 
+-- the number that the row x has first
 unfoldable pub numberAt : List ℕ → ℕ → ℕ → ℕ
 numberAt m n x = rowCell m n x 1
 
+-- the output of the row x
 unfoldable pub outputAt : List ℕ → ℕ → ℕ → ℕ
 outputAt m n x = rowCell m n x 2
 
+-- the place of the first input of the row x
 unfoldable pub firstAt : List ℕ → ℕ → ℕ → ℕ
 firstAt m n x = rowCell m n x 3
 
+-- how many inputs the row x has
 unfoldable pub countAt : List ℕ → ℕ → ℕ → ℕ
 countAt m n x = rowCell m n x 4
 
@@ -89,6 +99,7 @@ unfoldable pub inputsFrom : List ℕ → ℕ → ℕ → List ℕ
 inputsFrom m f zero = []
 inputsFrom m f (suc k) = cell m (inputs-at + f) ∷ inputsFrom m (suc f) k
 
+-- the width that a number stands for
 abbrev pub widthOf : ℕ → Width
 widthOf zero = w8
 widthOf (suc zero) = w16
@@ -128,9 +139,11 @@ rowsOf m n = tab (shapeAt m n) n
 abbrev pub varCell : List ℕ → ℕ → ℕ → ℕ → ℕ
 varCell m n v k = pick (leb n v) 0 (cell m (v * 5 + k))
 
+-- the kind that a number stands for
 abbrev pub kindOf : ℕ → Kind
 kindOf k = pick (eqb k 1) integer (pick (eqb k 2) floating regular)
 
+-- the kind of the variable v
 unfoldable pub kindAt : List ℕ → ℕ → ℕ → Kind
 kindAt m n v = kindOf (varCell m n v 0)
 
@@ -139,9 +152,11 @@ abbrev pub numbered : ℕ → Option ℕ
 numbered zero = none
 numbered (suc r) = some r
 
+-- the node that drew the variable v
 unfoldable pub originAt : List ℕ → ℕ → ℕ → Option ℕ
 originAt m n v = numbered (varCell m n v 1)
 
+-- the row that the variable v is bound to
 unfoldable pub bindingAt : List ℕ → ℕ → ℕ → Option ℕ
 bindingAt m n v = pick (eqb (varCell m n v 2) 1) (some (varCell m n v 3)) none
 
@@ -149,15 +164,19 @@ bindingAt m n v = pick (eqb (varCell m n v 2) 1) (some (varCell m n v 3)) none
 unfoldable pub markAt : List ℕ → ℕ → ℕ → Bool
 markAt m n v = eqb (varCell m n v 4) 1
 
+-- the kinds of the first n variables
 unfoldable pub kindsOf : List ℕ → ℕ → List Kind
 kindsOf m n = tab (kindAt m n) n
 
+-- their origins
 unfoldable pub originsOf : List ℕ → ℕ → List (Option ℕ)
 originsOf m n = tab (originAt m n) n
 
+-- their bindings
 unfoldable pub bindsOf : List ℕ → ℕ → List (Option ℕ)
 bindsOf m n = tab (bindingAt m n) n
 
+-- their marks
 unfoldable pub marksOf : List ℕ → ℕ → List Bool
 marksOf m n = tab (markAt m n) n
 
@@ -167,6 +186,7 @@ memOf m n = record { binds = bindsOf m n; marks = marksOf m n }
 
 -- ── counts ──
 
+-- t rows, v variables and i inputs
 abbrev pub counts : ℕ → ℕ → ℕ → Counts
 counts t v i = record { types = t; vars = v; inputs = i }
 

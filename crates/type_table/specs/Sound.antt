@@ -8,7 +8,7 @@ use Rattle.theory.specs.Rules.{w8, w16, w32, w64, bool, nil, float, double, uin
 use Rattle.theory.specs.Program.{St, firstEqual}
 use Rattle.theory.specs.Graph.{Lower, Good}
 use Rattle.type_table.specs.declared.Counts.{Counts}
-use Rattle.type_table.specs.Memory.{most-types, most-vars, most-inputs, cells, cell, firstAt, countAt, inputsFrom, shapeOf, rowsOf, kindsOf, numbered, originsOf, bindsOf, memOf}
+use Rattle.type_table.specs.Memory.{most-types, most-vars, most-inputs, inputs-at, cells, cell, firstAt, countAt, inputsFrom, shapeOf, rowsOf, kindsOf, numbered, originsOf, bindsOf, memOf}
 use Rattle.type_table.specs.Made.{Making, poolCell}
 
 -- the fixed types in document 01's order: Nil, Bool, u8, u16, u32, u64, i8, i16, i32, i64, Float, Double, Error, Diverges
@@ -19,6 +19,10 @@ fixed-types = base nil ∷ base bool ∷ base (uint w8) ∷ base (uint w16) ∷ 
 abbrev pub InputsBelow : List ℕ → ℕ → ℕ → Type 0
 InputsBelow m n i = (x : ℕ) → x < n → firstAt m n x + countAt m n x ≤ i
 
+-- each of the first i inputs names one of n rows
+abbrev pub InputRows : List ℕ → ℕ → ℕ → Type 0
+InputRows m n i = (j : ℕ) → j < i → cell m (inputs-at + j) < n
+
 -- for each type that has a cell of the pool, that cell names the first of these rows that is equal to it
 abbrev pub PoolNames : List ℕ → List Shape → Type 0
 PoolNames m rows = (h a : ℕ) → poolCell h a ≢ 0 → numbered (cell m (poolCell h a)) ≡ firstEqual 0 rows (shapeOf h a 0 [])
@@ -27,7 +31,7 @@ PoolNames m rows = (h a : ℕ) → poolCell h a ≢ 0 → numbered (cell m (pool
 abbrev pub SameInputs : List ℕ → Counts → List ℕ → Type 0
 SameInputs m c u = (f k : ℕ) → f + k ≤ c .inputs → inputsFrom u f k ≡ inputsFrom m f k
 
--- the memory is large enough, the counts are within their limits, the inputs of the rows stand, and the pool is right
+-- the memory is large enough, the counts are within their limits, the inputs of the rows stand and name rows, and the pool is right
 pub record Laid (m : List ℕ) (c : Counts) : Type 0 where
   -- the memory has all regions
   pub size : cells ≤ length m
@@ -41,6 +45,8 @@ pub record Laid (m : List ℕ) (c : Counts) : Type 0 where
   pub fixed : 14 ≤ c .types
   -- the inputs of each row are inputs
   pub below : InputsBelow m (c .types) (c .inputs)
+  -- each input names a row
+  pub named : InputRows m (c .types) (c .inputs)
   -- the pool names the first of equal rows
   pub pooled : PoolNames m (rowsOf m (c .types))
 

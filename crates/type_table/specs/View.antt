@@ -1,15 +1,13 @@
 -- What the reading operations answer, in the enums of the code.
 use mathlib.Core.List.{List}
 use mathlib.Core.Option.{Option, none, some}
-use Prim.Native.Nat.{ℕ, suc, zero, _+_, _*_}
+use Prim.Native.Nat.{ℕ, suc, zero, _+_}
 use lib.Dec.{eqb}
 use Rattle.theory.specs.Rules.{iter}
 use Rattle.type_table.specs.declared.Counts.{Counts}
 use Rattle.type_table.specs.declared.TypeId.{TypeId}
 use Rattle.type_table.specs.declared.VarId.{VarId}
 use Rattle.type_table.specs.declared.NodeId.{NodeId}
-use Rattle.type_table.specs.declared.DefId.{DefId}
-use Rattle.type_table.specs.declared.InstId.{InstId}
 use Rattle.type_table.specs.declared.InputRange.{InputRange}
 use Rattle.type_table.specs.declared.Width.{Width}
 use Rattle.type_table.specs.declared.Width.the-variants.{W8, W16, W32, W64}
@@ -23,38 +21,49 @@ use Rattle.type_table.specs.declared.Bound.{Bound}
 use Rattle.type_table.specs.declared.Bound.the-variants.{To, Open}
 use Rattle.type_table.specs.Memory.{pick, varCell, headAt, numberAt, outputAt, firstAt, countAt, bindingAt}
 
+-- the type of a number
 abbrev pub type : ℕ → TypeId
 type x = record { 0 = x }
 
+-- the variable of a number
 abbrev pub variable : ℕ → VarId
 variable v = record { 0 = v }
 
+-- the node of a number
 abbrev pub node : ℕ → NodeId
 node n = record { 0 = n }
 
+-- k inputs from f on
 abbrev pub range : ℕ → ℕ → InputRange
 range f k = record { first = f; count = k }
 
+-- the kind that a number stands for
 unfoldable pub kindCode : ℕ → Kind
 kindCode k = pick (eqb k 1) Integer (pick (eqb k 2) Float·K Regular)
 
+-- the kind of a variable
 unfoldable pub kindIn : List ℕ → Counts → VarId → Kind
 kindIn m c v = kindCode (varCell m (c .vars) (v .0) 0)
 
+-- the origin that a number stands for: 0 is a literal, else the node plus one
 abbrev pub originCode : ℕ → Origin
 originCode zero = Literal
 originCode (suc n) = Node (node n)
 
+-- the origin of a variable
 unfoldable pub originIn : List ℕ → Counts → VarId → Origin
 originIn m c v = originCode (varCell m (c .vars) (v .0) 1)
 
+-- a binding as the code has it
 abbrev pub boundCode : Option ℕ → Bound
 boundCode none = Open
 boundCode (some x) = To (type x)
 
+-- the binding of a variable
 unfoldable pub boundIn : List ℕ → Counts → VarId → Bound
 boundIn m c v = boundCode (bindingAt m (c .vars) (v .0))
 
+-- the width that a number stands for
 unfoldable pub widthCode : ℕ → Width
 widthCode a = pick (eqb a 0) W8 (pick (eqb a 1) W16 (pick (eqb a 2) W32 W64))
 
@@ -77,6 +86,7 @@ viewOf h a o i =
     (pick (eqb h 14) (Ref (type a))
     Nil)))))))))))))
 
+-- the row x, taken apart
 unfoldable pub viewIn : List ℕ → Counts → TypeId → Row
 viewIn m c x = viewOf (headAt m (c .types) (x .0)) (numberAt m (c .types) (x .0)) (type (outputAt m (c .types) (x .0))) (range (firstAt m (c .types) (x .0)) (countAt m (c .types) (x .0)))
 
@@ -84,6 +94,7 @@ viewIn m c x = viewOf (headAt m (c .types) (x .0)) (numberAt m (c .types) (x .0)
 unfoldable pub onwardIn : List ℕ → Counts → TypeId → Bound
 onwardIn m c x = pick (eqb (headAt m (c .types) (x .0)) 12) (boundIn m c (variable (numberAt m (c .types) (x .0)))) Open
 
+-- the row itself where it is not bound, else what f answers of the row that it is bound to
 abbrev pub endBy : (ℕ → ℕ) → ℕ → Bound → ℕ
 endBy f x (To y) = f (y .0)
 endBy f x Open = x
@@ -92,5 +103,6 @@ endBy f x Open = x
 abbrev pub endFrom : List ℕ → Counts → ℕ → ℕ → ℕ
 endFrom m c n x = iter (λ (f : ℕ → ℕ) (y : ℕ). endBy f y (onwardIn m c (type y))) 12 n x
 
+-- the same, of as many steps as there are rows, and one more
 unfoldable pub endIn : List ℕ → Counts → ℕ → ℕ
 endIn m c x = endFrom m c (c .types + 1) x

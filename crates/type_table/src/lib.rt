@@ -3,11 +3,12 @@
 
 ghost use mathlib.Core.Path.{_≡_};
 ghost use Prim.Native.Nat.{ℕ, _+_, _*_, _<_, _≤_};
-ghost use lib.ListN.{set};
+ghost use lib.ListN.{set, length};
+ghost use Rattle.theory.specs.Program.{clip};
 ghost use Rattle.theory.specs.Rules.{array-head, ref-head, fn-def-head, instance-head, lambda-head, param-head};
-ghost use Rattle.type_table.specs.Memory.{cell, inputs-at, headAt, rowCell, numberAt, outputAt, firstAt, countAt, varCell, markAt};
+ghost use Rattle.type_table.specs.Memory.{cell, cells, inputs-at, headAt, rowCell, numberAt, outputAt, firstAt, countAt, varCell, markAt};
 ghost use Rattle.type_table.specs.View.{kindCode, kindIn, originIn, boundIn, widthCode, viewOf, viewIn, onwardIn, endIn};
-ghost use Rattle.type_table.specs.Made.{marking, binding, kindNumber, originNumber, rowWritten, varWritten, made, pushed, drawIn, poolCell, appendIn, enterIn, internIn, internOf, pushIn, startIn};
+ghost use Rattle.type_table.specs.Made.{marking, binding, kindNumber, originNumber, rowWritten, varWritten, made, pushed, drawIn, poolCell, appendIn, enterIn, internIn, internOf, partsIn, pushIn, pool-cells, cleared, startIn};
 
 // The most type rows: 14 fixed, 512 declared, 4,096 made.
 pub const MOST_TYPES: u16 = 4622;
@@ -297,7 +298,7 @@ pub fn mark(m: &mut [u16], c: Counts, v: VarId)
     }
 }
 
-// Binds a variable; for what is no variable it changes nothing.
+// Binds a variable; for what is no variable it changes nothing. For `unify` alone: it does not look for cycles.
 pub fn bind(m: &mut [u16], c: Counts, v: VarId, z: TypeId)
     ensures { λ _. ⌜ now (m .exit) ≡ binding (now (m .entry)) (c .vars) (v .0) (z .0) ⌝ }
 {
@@ -538,7 +539,14 @@ pub fn instance(m: &mut [u16], c: Counts, k: InstId) -> Made
     intern(m, c, 5, a)
 }
 
-// One more input, for the function or lambda that is made next. Without room nothing changes.
+// A row's number, 0 for what is no row.
+fn row_or_0(n: u16, x: u16) -> u16
+    ensures { λ r. ⌜ r ≡ clip n x ⌝ }
+{
+    if x < n { x } else { 0 }
+}
+
+// One more input, for the function or lambda that is made next; what is no row is pushed as row 0. Without room nothing changes.
 pub fn push_input(m: &mut [u16], c: Counts, x: TypeId) -> Counts
     ensures { λ r. ⌜ pushed r (now (m .exit)) ≡ pushIn (now (m .entry)) c (x .0) ⌝ }
 {
@@ -549,7 +557,8 @@ pub fn push_input(m: &mut [u16], c: Counts, x: TypeId) -> Counts
     if 9216 <= i {
         return c;
     }
-    write(m, INPUTS_AT + i as usize, a);
+    let b = row_or_0(t, a);
+    write(m, INPUTS_AT + i as usize, b);
     Counts {
         types: t,
         vars: v,
@@ -557,21 +566,44 @@ pub fn push_input(m: &mut [u16], c: Counts, x: TypeId) -> Counts
     }
 }
 
-// The type of the lambda of a node, with the inputs that stand at r.
-pub fn lambda(m: &mut [u16], c: Counts, n: NodeId, o: TypeId, r: InputRange) -> Made
-    ensures { λ s. ⌜ made s (now (m .exit)) ≡ appendIn (now (m .entry)) c lambda-head (n .0) (o .0) (r .first) (r .count) ⌝ }
+// A new row of a head that has an output and inputs. Nothing changes, and the answer is row 0, if the output is no row, if an input that
+// r names is not there, or without room.
+fn append_parts(m: &mut [u16], c: Counts, h: u16, a: u16, o: TypeId, r: InputRange) -> Made
+    ensures { λ s. ⌜ made s (now (m .exit)) ≡ partsIn (now (m .entry)) c h a (o .0) (r .first) (r .count) ⌝ }
 {
-    let a = n.0;
     let b = o.0;
-    append(m, c, 13, a, b, r)
+    let n = c.types;
+    let i = c.inputs;
+    let f = r.first;
+    let k = r.count;
+    if n <= b {
+        return Made {
+            counts: c,
+            ty: TypeId(0),
+        };
+    }
+    if (i as u32) < f as u32 + k as u32 {
+        return Made {
+            counts: c,
+            ty: TypeId(0),
+        };
+    }
+    append(m, c, h, a, b, r)
 }
 
-// The type of functions of a SPAN, with the inputs that stand at r.
-pub fn function(m: &mut [u16], c: Counts, span: u16, o: TypeId, r: InputRange) -> Made
-    ensures { λ s. ⌜ made s (now (m .exit)) ≡ appendIn (now (m .entry)) c param-head span (o .0) (r .first) (r .count) ⌝ }
+// The type of the lambda of a node, with the inputs that stand at r. If a part of it is not there, the answer is row 0.
+pub fn lambda(m: &mut [u16], c: Counts, n: NodeId, o: TypeId, r: InputRange) -> Made
+    ensures { λ s. ⌜ made s (now (m .exit)) ≡ partsIn (now (m .entry)) c lambda-head (n .0) (o .0) (r .first) (r .count) ⌝ }
 {
-    let b = o.0;
-    append(m, c, 6, span, b, r)
+    let a = n.0;
+    append_parts(m, c, 13, a, o, r)
+}
+
+// The type of functions of a SPAN, with the inputs that stand at r. If a part of it is not there, the answer is row 0.
+pub fn function(m: &mut [u16], c: Counts, span: u16, o: TypeId, r: InputRange) -> Made
+    ensures { λ s. ⌜ made s (now (m .exit)) ≡ partsIn (now (m .entry)) c param-head span (o .0) (r .first) (r .count) ⌝ }
+{
+    append_parts(m, c, 6, span, o, r)
 }
 
 // The fields of `Types`, by head.
@@ -579,10 +611,30 @@ const FIXED_HEADS: [u16; 14] = [9, 0, 1, 1, 1, 1, 2, 2, 2, 2, 3, 4, 10, 11];
 // Their widths.
 const FIXED_WIDTHS: [u16; 14] = [0, 0, 0, 1, 2, 3, 0, 1, 2, 3, 0, 0, 0, 0];
 
-// The fourteen fixed types, and nothing else.
+// Sets the cells of the pool to 0.
+fn clear(m: &mut [u16])
+    requires { ⌜ cells ≤ length (now m) ⌝ }
+    ensures { λ _. ⌜ now (m .exit) ≡ cleared (now (m .entry)) pool-cells ⌝ }
+{
+    let mut i = ARRAYS_AT;
+    while i < MEMORY {
+        m[i] = 0;
+        i += 1;
+    }
+}
+
+// The fourteen fixed types, and nothing else. A memory that is shorter than MEMORY stays as it is, and the answer is no row.
 pub fn start(m: &mut [u16]) -> Counts
     ensures { λ r. ⌜ pushed r (now (m .exit)) ≡ startIn (now (m .entry)) ⌝ }
 {
+    if m.len() < MEMORY {
+        return Counts {
+            types: 0,
+            vars: 0,
+            inputs: 0,
+        };
+    }
+    clear(m);
     let mut x: u16 = 0;
     while x < 14 {
         let i = x as usize;

@@ -3,16 +3,15 @@
 use mathlib.Core.Path.{_≡_}
 use mathlib.Core.Logic.{_≢_, _↔_}
 use mathlib.Core.List.{List, [], _∷_, _++_, map}
-use mathlib.Core.Option.{Option, none, some}
+use mathlib.Core.Option.{none, some}
 use mathlib.Core.Bool.{true, false}
 use Prim.Native.Nat.{ℕ, _<_}
 use lib.ListN.{length}
 use Rattle.theory.specs.Rules.{Shape, Kind, success, kindOrder, refused13, Mem, Pair, row}
 use Rattle.theory.specs.Program.{Equation, St, Prog, madeOf, equalRows, firstEqual, run, solve}
 use Rattle.theory.specs.Basics.{All}
-use Rattle.theory.specs.Ways.{Way, Kinded, Plain, den, Agrees, Sided, Meets, Went, Failed}
-use Rattle.theory.specs.Graph.{Lower, Good}
-use Rattle.theory.specs.Sound.{Fair}
+use Rattle.theory.specs.Ways.{Way, Kinded, den, Agrees, Sided, Meets, Went, Failed}
+use Rattle.theory.specs.Graph.{Good}
 use Rattle.theory.specs.Keep.{KeptBy, Ended}
 use Rattle.theory.specs.Start.{ordered, start}
 use Rattle.theory.specs.Solve.{solves, Fresh, Posed, Solves}
@@ -23,11 +22,12 @@ use Rattle.type_table.specs.declared.TypeId.{TypeId}
 use Rattle.type_table.specs.declared.Bound.the-variants.{Open}
 use Rattle.type_table.specs.View.{type, onwardIn, endIn}
 use Rattle.type_table.specs.Sound.{Sound}
+use Rattle.type_table.specs.Promises.{follow-promise}
 use Rattle.unify.specs.declared.Answer.{Answer}
 use Rattle.unify.specs.declared.Answer.the-variants.{Success}
 use Rattle.unify.specs.Leaf.{rowsIn, kindsIn}
 use Rattle.unify.specs.Search.{bindsIn}
-use Rattle.unify.specs.Unify.{heldIn, solveIn, SolvedBy, Solved}
+use Rattle.unify.specs.Unify.{solveIn, SolvedBy, Solved}
 use Rattle.unify.specs.Keeps as keeps
 use Rattle.unify.specs.Meaning.{rowOf, PlainSides, Fails}
 use Rattle.unify.specs.Meaning as meaning
@@ -67,7 +67,7 @@ a-way-agrees = meaning.agreeing-way
 
 -- the end is no bound variable
 pub end-is-open : (m : List ℕ) (c : Counts) → Sound m c → (x : ℕ) → onwardIn m c (type (endIn m c x)) ≡ Open
-end-is-open = follow.follow-ends
+end-is-open m c sound = follow-promise sound
 
 -- a row and its end become the same type under every way that agrees with the bindings
 pub end-means-same : (m : List ℕ) (c : Counts) → Sound m c → (f : Way) → Agrees (rowsIn m c) (bindsIn m c) f → (x : ℕ) → den (rowsIn m c) f (endIn m c x) ≡ den (rowsIn m c) f x

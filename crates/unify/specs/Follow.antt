@@ -1,4 +1,4 @@
--- The end of a row's bindings: in sound tables `follow` ends at a row that is no bound variable, and every agreeing way gives both one type.
+-- The end of a row's bindings: every way that agrees with the bindings gives a row and its end one type.
 use mathlib.Core.Path.{_≡_, refl, sym, ap, _∙_}
 use mathlib.Core.List.{List}
 use mathlib.Core.Option.{Option, none, some}
@@ -47,19 +47,6 @@ onward-bound m c x y e = by (ℕ-discrete (headAt m (c .types) x) 12)
 module _ (m : List ℕ) (c : Counts) (sound : Sound m c) where
   falls-on : (x : ℕ) (y : TypeId) → onwardIn m c (type x) ≡ To y → sound .good .rank (y .0) < sound .good .rank x
   falls-on x y e = let o = onward-bound m c x y e in let f = sound .good .falls x in let g = rw (o .is-var, o .bound-to) at f in g .0
-
-  ends : (n x : ℕ) → sound .good .rank x < n → onwardIn m c (type (endFrom m c n x)) ≡ Open
-  ends zero x h = absurd (omega arith)
-  ends (suc n) x h = by (λ y e. ends n (y .0) (omega (arith, falls-on x y e))) (onwardIn m c (type x)) refl
-    where
-      by : ((y : TypeId) → onwardIn m c (type x) ≡ To y → onwardIn m c (type (endFrom m c n (y .0))) ≡ Open) → (b : Bound) → onwardIn m c (type x) ≡ b → onwardIn m c (type (endBy (endFrom m c n) x b)) ≡ Open
-      by ih Open e = e
-      by ih (To y) e = ih y e
-
-  -- `follow` ends at a row that is no bound variable
-  pub follow-ends : (x : ℕ) → onwardIn m c (type (endIn m c x)) ≡ Open
-  unfolding endIn
-  follow-ends x = ends (c .types + 1) x (omega (arith, sound .good .top x, length-rows m (c .types)))
 
   means : (f : Way) → Agrees (rowsIn m c) (bindsIn m c) f → (n x : ℕ) → sound .good .rank x < n → den (rowsIn m c) f (endFrom m c n x) ≡ den (rowsIn m c) f x
   means f a zero x h = absurd (omega arith)

@@ -6,14 +6,15 @@ use mathlib.Core.Option.{Option, none, some}
 use mathlib.Core.Bool.{Bool, true, false}
 use Prim.Native.Nat.{ℕ, suc, zero, _+_, _*_, _≤_, _<_}
 use native.Mathlib.Omega.{arith}
-use native.Mathlib.Decide.{decLt, ℕ-discrete}
+use native.Mathlib.Decide.{ℕ-discrete}
 use lib.ListN.{length}
 use lib.Seq.{ext-getD}
 use lib.Dec.{eqb}
-use borrow.Author.Tests.{eq-eqb, ne-eqb, lt-ltb, le-ltb, lt-leb}
+use borrow.Author.Tests.{eq-eqb, ne-eqb, le-ltb, lt-leb}
 use Rattle.theory.specs.Rules.{Mem}
 use Rattle.theory.specs.Program.{clip}
 use Rattle.theory.specs.Keep.{KeptBy, Ended, solve-kept}
+use Rattle.theory.specs.Demand.{clip-in}
 use Rattle.type_table.specs.declared.Counts.{Counts}
 use Rattle.type_table.specs.declared.TypeId.{TypeId}
 use Rattle.type_table.specs.Memory.{pick, cell, cells, most-types, most-vars, counts, bindingAt, markAt, bindsOf, memOf, Held}
@@ -33,12 +34,9 @@ unfolding heldIn
 held-sound m c s = rw (le-ltb (length m) cells (s .laid .size), le-ltb most-types (c .types) (s .laid .types), le-ltb most-vars (c .vars) (s .laid .vars))
 
 module _ (m : List ℕ) (c : Counts) (sound : Sound m c) (x y : TypeId) where
+  -- a clipped number is a row's
   clip-low : (z : ℕ) → clip (c .types) z < length (rowsIn m c)
-  clip-low z = rw (length-rows m (c .types)) (by (decLt z (c .types)))
-    where
-      by : Dec (z < c .types) → clip (c .types) z < c .types
-      by (yes h) = rw (lt-ltb z (c .types) h) h
-      by (no h) = let k : c .types ≤ z = omega arith in rw (le-ltb z (c .types) k) (omega (arith, sound .laid .fixed))
+  clip-low z = rw (length-rows m (c .types)) (clip-in (c .types) z (omega (arith, sound .laid .fixed)))
 
   -- what the rules make of sound tables is sound
   solve-sound : KeptBy (rowsIn m c) (kindsIn m c) (memIn m c) (solveIn m c (x .0) (y .0))

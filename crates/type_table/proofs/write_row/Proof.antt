@@ -2,76 +2,20 @@ use borrow.Author.Needs.{needs}
 use Rattle.type_table.proofs.Laws.{row-written}
 use Rattle.type_table.proofs.write_row.Statement.{statement}
 use Rattle.type_table.proofs.write_row.Tie as tie
-use Rattle.type_table.proofs.write_row.Reads as reads
-use Rattle.type_table.proofs.write_row.Lts as lts
-use Rattle.type_table.proofs.write.Reads as write-reads
-
--- src/lib.rt:345:24
-mul-at : tie.Need-mul-at
-mul-at c = search needs
-
--- src/lib.rt:345:14
-add-at : tie.Need-add-at
-add-at c = search needs
-
--- src/lib.rt:346:5
-write-requires : tie.Need-write-requires
-write-requires c κs = search needs
-
--- src/lib.rt:347:14
-add-write : tie.Need-add-write
-add-write c = search needs
-
--- src/lib.rt:347:5
-write-requires-2 : tie.Need-write-requires-2
-write-requires-2 c κs = search needs
-
--- src/lib.rt:348:14
-add-write-2 : tie.Need-add-write-2
-add-write-2 c = search needs
-
--- src/lib.rt:348:5
-write-requires-3 : tie.Need-write-requires-3
-write-requires-3 c κs = search needs
-
--- src/lib.rt:349:14
-add-write-3 : tie.Need-add-write-3
-add-write-3 c = search needs
-
--- src/lib.rt:349:5
-write-requires-4 : tie.Need-write-requires-4
-write-requires-4 c κs = search needs
-
--- src/lib.rt:350:14
-add-write-4 : tie.Need-add-write-4
-add-write-4 c = search needs
-
--- src/lib.rt:350:5
-write-requires-5 : tie.Need-write-requires-5
-write-requires-5 c κs = search needs
-
--- src/lib.rt:340:1
-same-length : tie.Need-same-length
-same-length c = search needs
-
--- src/lib.rt:340:1
-returns : tie.Need-returns
-returns c = row-written _ _ _ _ _ _ _ _ _ _ _ _ (c .before .before .before .before .before .before .before .before .before .before .before .before .before .before .before .before .before .before .write .ensures) (c .before .before .before .before .before .before .before .before .before .before .before .before .before .before .write2 .ensures) (c .before .before .before .before .before .before .before .before .before .before .write3 .ensures) (c .before .before .before .before .before .before .write4 .ensures) (c .before .before .write5 .ensures)
 
 pub write-row-spec : {M : Type 1} → statement M
 write-row-spec =
-    tie.close
-    (tie.spec
-    mul-at
-    add-at
-    write-requires
-    add-write
-    write-requires-2
-    add-write-2
-    write-requires-3
-    add-write-3
-    write-requires-4
-    add-write-4
-    write-requires-5
-    same-length
-    returns)
+    tie.close (tie.spec
+    (λ c. search needs)
+    (λ c. search needs)
+    (λ c κs. search needs)
+    (λ c. search needs)
+    (λ c κs. search needs)
+    (λ c. search needs)
+    (λ c κs. search needs)
+    (λ c. search needs)
+    (λ c κs. search needs)
+    (λ c. search needs)
+    (λ c κs. search needs)
+    (λ c. search needs)
+    (λ c. row-written _ _ _ _ _ _ _ _ _ _ _ _ (c .before .before .before .before .before .before .before .before .before .before .before .before .before .before .before .before .before .before .write .ensures) (c .before .before .before .before .before .before .before .before .before .before .before .before .before .before .write2 .ensures) (c .before .before .before .before .before .before .before .before .before .before .write3 .ensures) (c .before .before .before .before .before .before .write4 .ensures) (c .before .before .write5 .ensures)))
