@@ -4,7 +4,7 @@
 ghost use mathlib.Core.Path.{_≡_};
 ghost use Prim.Native.Nat.{ℕ, _+_, _*_, _<_, _≤_};
 ghost use lib.ListN.{set, length};
-ghost use Rattle.theory.specs.Program.{clip};
+ghost use Rattle.theory.specs.Program.{clip as clip·T};
 ghost use Rattle.theory.specs.Rules.{array-head, ref-head, fn-def-head, instance-head, lambda-head, param-head};
 ghost use Rattle.type_table.specs.Memory.{cell, cells, inputs-at, headAt, rowCell, numberAt, outputAt, firstAt, countAt, varCell, markAt};
 ghost use Rattle.type_table.specs.View.{kindCode, kindIn, originIn, boundIn, widthCode, viewOf, viewIn, onwardIn, endIn};
@@ -539,11 +539,13 @@ pub fn instance(m: &mut [u16], c: Counts, k: InstId) -> Made
     intern(m, c, 5, a)
 }
 
-// A row's number, 0 for what is no row.
-fn row_or_0(n: u16, x: u16) -> u16
-    ensures { λ r. ⌜ r ≡ clip n x ⌝ }
+// The row x; row 0 for what is no row.
+pub fn clip(c: Counts, x: TypeId) -> TypeId
+    ensures { λ r. ⌜ r .0 ≡ clip·T (c .types) (x .0) ⌝ }
 {
-    if x < n { x } else { 0 }
+    let i = x.0;
+    let n = c.types;
+    if i < n { x } else { TypeId(0) }
 }
 
 // One more input, for the function or lambda that is made next; what is no row is pushed as row 0. Without room nothing changes.
@@ -553,11 +555,11 @@ pub fn push_input(m: &mut [u16], c: Counts, x: TypeId) -> Counts
     let t = c.types;
     let v = c.vars;
     let i = c.inputs;
-    let a = x.0;
     if 9216 <= i {
         return c;
     }
-    let b = row_or_0(t, a);
+    let y = clip(c, x);
+    let b = y.0;
     write(m, INPUTS_AT + i as usize, b);
     Counts {
         types: t,

@@ -201,12 +201,6 @@ module _ (m₀ : List ℕ) (c : Counts) (a₀ b₀ : TypeId) (n : ℕ) where
 
 -- ── the public operation ──
 
-pub clip-in : (n : ℕ) (x : TypeId) → x .0 < n → x .0 ≡ clip n (x .0)
-clip-in n x h = rw (lt-ltb (x .0) n h)
-
-pub clip-out : (n : ℕ) (x : TypeId) → n ≤ x .0 → 0 ≡ clip n (x .0)
-clip-out n x h = rw (le-ltb (x .0) n h)
-
 -- the counts that are taken are held
 pub held-is : (m : List ℕ) (c : Counts) → Held m (heldIn m c)
 unfolding heldIn

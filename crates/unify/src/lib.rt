@@ -6,7 +6,6 @@ ghost use Prim.Native.Nat.{ℕ, _+_, _≤_};
 ghost use lib.Dec.{eqb};
 ghost use Rattle.theory.specs.Rules.{kindFits};
 ghost use Rattle.theory.specs.Rules.{compared as compared·T, choose as choose·T};
-ghost use Rattle.theory.specs.Program.{clip as clip·T};
 ghost use Rattle.type_table.specs.Memory.{inputsFrom};
 ghost use Rattle.unify.specs.Leaf.{kindK, stepK, cap, code, Classed, Caused, Signed, Compared, SameVar};
 ghost use Rattle.unify.specs.Search.{queue, pushF, pushAll, parts, Visited, Reached, Stands, LedVar, Led, Sought};
@@ -702,22 +701,13 @@ fn held(m: &[u16], c: Counts) -> Counts
     c
 }
 
-// A row's number, 0 for what is no row.
-fn clip(c: Counts, x: TypeId) -> TypeId
-    ensures { λ r. ⌜ r .0 ≡ clip·T (c .types) (x .0) ⌝ }
-{
-    let i = x.0;
-    let n = c.types;
-    if i < n { x } else { TypeId(0) }
-}
-
 // The equation of the rows x, expected, and y, got; what is no row counts as row 0.
 pub fn unify(m: &mut [u16], c: Counts, x: TypeId, y: TypeId) -> Answer
     ensures { λ r. ⌜ Solved (now (m .entry)) c x y (now (m .exit)) r ⌝ }
 {
     let d = held(m, c);
-    let e = clip(d, x);
-    let g = clip(d, y);
+    let e = type_table::clip(d, x);
+    let g = type_table::clip(d, y);
     let t = d.types as u64;
     let v = d.vars as u64;
     let n = v * (t + t + 1) + (t + t) + 1;

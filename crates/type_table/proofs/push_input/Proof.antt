@@ -13,4 +13,4 @@ push-input-spec =
     (λ c κs. search needs)
     (λ c. search needs)
     (λ c. search needs)
-    (λ c. push-new _ _ _ _ _ (c .before .before .before .before .before .if1 .left) (c .before .before .before .before .row-or-0 .ensures) (c .before .before .write .ensures)))
+    (λ c. push-new _ _ _ _ _ (c .before .before .before .before .before .if1 .left) (c .before .before .before .before .clip .ensures) (c .before .before .write .ensures)))

@@ -1,9 +1,0 @@
-use Rattle.unify.proofs.UniLaws.{clip-in, clip-out}
-use Rattle.unify.proofs.clip.Statement.{statement}
-use Rattle.unify.proofs.clip.Tie as tie
-
-pub clip-spec : {M : Type 1} → statement M
-clip-spec =
-    tie.close (tie.spec
-    (λ c. clip-in _ _ (c .if1 .taken))
-    (λ c. clip-out _ _ (c .if1 .left)))
