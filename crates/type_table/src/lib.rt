@@ -17,6 +17,44 @@ pub const MOST_VARS: u16 = 1024;
 // The most inputs of functions and lambdas: 512 times 16 declared, and each node at most once.
 pub const MOST_INPUTS: u16 = 9216;
 
+// The most definitions and instances.
+pub const MOST_DEFS: u16 = 256;
+
+pub const MOST_INSTANCES: u16 = 64;
+
+// The heads of `TyKind`, by their places from 0.
+pub const HEAD_BOOL: u16 = 0;
+
+pub const HEAD_UINT: u16 = 1;
+
+pub const HEAD_INT: u16 = 2;
+
+pub const HEAD_FLOAT: u16 = 3;
+
+pub const HEAD_DOUBLE: u16 = 4;
+
+pub const HEAD_INSTANCE: u16 = 5;
+
+pub const HEAD_PARAM: u16 = 6;
+
+pub const HEAD_FN_DEF: u16 = 7;
+
+pub const HEAD_ARRAY: u16 = 8;
+
+pub const HEAD_NIL: u16 = 9;
+
+pub const HEAD_ERROR: u16 = 10;
+
+pub const HEAD_DIVERGES: u16 = 11;
+
+pub const HEAD_INFER_TY: u16 = 12;
+
+pub const HEAD_LAMBDA: u16 = 13;
+
+pub const HEAD_REF: u16 = 14;
+// How many there are.
+pub const HEADS: u16 = 15;
+
 // Where the regions begin: variables and rows of five cells, inputs of one, and the pool's four indices.
 const ROWS_AT: usize = 5120;
 
@@ -132,10 +170,10 @@ pub fn head(m: &[u16], c: Counts, x: TypeId) -> u16
     let i = x.0;
     let n = c.types;
     if n <= i {
-        return 9;
+        return HEAD_NIL;
     }
     let h = read(m, ROWS_AT + i as usize * 5);
-    if h < 15 { h } else { 9 }
+    if h < HEADS { h } else { HEAD_NIL }
 }
 
 // A cell of a row; 0 for what is no row.
@@ -195,20 +233,20 @@ fn decode(h: u16, a: u16, o: TypeId, i: InputRange) -> Row
     ensures { λ r. ⌜ r ≡ viewOf h a o i ⌝ }
 {
     match h {
-        0 => Row::Bool,
-        1 => Row::Uint(width_of(a)),
-        2 => Row::Int(width_of(a)),
-        3 => Row::Float,
-        4 => Row::Double,
-        5 => Row::Instance(InstId(a)),
-        6 => Row::Param(a, o, i),
-        7 => Row::FnDef(DefId(a)),
-        8 => Row::Array(TypeId(a)),
-        10 => Row::Error,
-        11 => Row::Diverges,
-        12 => Row::InferTy(VarId(a)),
-        13 => Row::Lambda(NodeId(a), o, i),
-        14 => Row::Ref(TypeId(a)),
+        HEAD_BOOL => Row::Bool,
+        HEAD_UINT => Row::Uint(width_of(a)),
+        HEAD_INT => Row::Int(width_of(a)),
+        HEAD_FLOAT => Row::Float,
+        HEAD_DOUBLE => Row::Double,
+        HEAD_INSTANCE => Row::Instance(InstId(a)),
+        HEAD_PARAM => Row::Param(a, o, i),
+        HEAD_FN_DEF => Row::FnDef(DefId(a)),
+        HEAD_ARRAY => Row::Array(TypeId(a)),
+        HEAD_ERROR => Row::Error,
+        HEAD_DIVERGES => Row::Diverges,
+        HEAD_INFER_TY => Row::InferTy(VarId(a)),
+        HEAD_LAMBDA => Row::Lambda(NodeId(a), o, i),
+        HEAD_REF => Row::Ref(TypeId(a)),
         _ => Row::Nil,
     }
 }
@@ -375,13 +413,13 @@ pub fn draw(m: &mut [u16], c: Counts, k: Kind, o: Origin) -> Made
     let v = c.vars;
     let t = c.types;
     let i = c.inputs;
-    if 1024 <= v {
+    if MOST_VARS <= v {
         return Made {
             counts: c,
             ty: TypeId(0),
         };
     }
-    if 4622 <= t {
+    if MOST_TYPES <= t {
         return Made {
             counts: c,
             ty: TypeId(0),
@@ -390,7 +428,7 @@ pub fn draw(m: &mut [u16], c: Counts, k: Kind, o: Origin) -> Made
     let a = kind_number(k);
     let b = origin_number(o);
     write_var(m, v, a, b);
-    write_row(m, t, 12, v, 0, InputRange { first: 0, count: 0 });
+    write_row(m, t, HEAD_INFER_TY, v, 0, InputRange { first: 0, count: 0 });
     Made {
         counts: Counts {
             types: t + 1,
@@ -406,26 +444,26 @@ fn pool_cell(h: u16, a: u16) -> usize
     ensures { λ r. ⌜ r ≡ poolCell h a ⌝ }
 {
     match h {
-        8 => {
-            if a < 4622 {
+        HEAD_ARRAY => {
+            if a < MOST_TYPES {
                 return ARRAYS_AT + a as usize;
             }
             0
         }
-        14 => {
-            if a < 4622 {
+        HEAD_REF => {
+            if a < MOST_TYPES {
                 return REFS_AT + a as usize;
             }
             0
         }
-        7 => {
-            if a < 256 {
+        HEAD_FN_DEF => {
+            if a < MOST_DEFS {
                 return DEFS_AT + a as usize;
             }
             0
         }
-        5 => {
-            if a < 64 {
+        HEAD_INSTANCE => {
+            if a < MOST_INSTANCES {
                 return INSTANCES_AT + a as usize;
             }
             0
@@ -441,7 +479,7 @@ fn append(m: &mut [u16], c: Counts, h: u16, a: u16, o: u16, r: InputRange) -> Ma
     let t = c.types;
     let v = c.vars;
     let i = c.inputs;
-    if 4622 <= t {
+    if MOST_TYPES <= t {
         return Made {
             counts: c,
             ty: TypeId(0),
@@ -463,7 +501,7 @@ fn enter(m: &mut [u16], c: Counts, p: usize, h: u16, a: u16) -> Made
     ensures { λ r. ⌜ made r (now (m .exit)) ≡ enterIn (now (m .entry)) c p h a ⌝ }
 {
     let t = c.types;
-    if 4622 <= t {
+    if MOST_TYPES <= t {
         return Made {
             counts: c,
             ty: TypeId(0),
@@ -513,14 +551,14 @@ fn intern_of(m: &mut [u16], c: Counts, h: u16, e: TypeId) -> Made
 pub fn array_of(m: &mut [u16], c: Counts, e: TypeId) -> Made
     ensures { λ r. ⌜ made r (now (m .exit)) ≡ internOf (now (m .entry)) c array-head (e .0) ⌝ }
 {
-    intern_of(m, c, 8, e)
+    intern_of(m, c, HEAD_ARRAY, e)
 }
 
 // The type reference to e.
 pub fn ref_to(m: &mut [u16], c: Counts, e: TypeId) -> Made
     ensures { λ r. ⌜ made r (now (m .exit)) ≡ internOf (now (m .entry)) c ref-head (e .0) ⌝ }
 {
-    intern_of(m, c, 14, e)
+    intern_of(m, c, HEAD_REF, e)
 }
 
 // The type of the definition d; of 256, or the answer is row 0.
@@ -528,7 +566,7 @@ pub fn fn_def(m: &mut [u16], c: Counts, d: DefId) -> Made
     ensures { λ r. ⌜ made r (now (m .exit)) ≡ internIn (now (m .entry)) c fn-def-head (d .0) ⌝ }
 {
     let a = d.0;
-    intern(m, c, 7, a)
+    intern(m, c, HEAD_FN_DEF, a)
 }
 
 // The type of the instance k; of 64, or the answer is row 0.
@@ -536,7 +574,7 @@ pub fn instance(m: &mut [u16], c: Counts, k: InstId) -> Made
     ensures { λ r. ⌜ made r (now (m .exit)) ≡ internIn (now (m .entry)) c instance-head (k .0) ⌝ }
 {
     let a = k.0;
-    intern(m, c, 5, a)
+    intern(m, c, HEAD_INSTANCE, a)
 }
 
 // The row x; row 0 for what is no row.
@@ -555,7 +593,7 @@ pub fn push_input(m: &mut [u16], c: Counts, x: TypeId) -> Counts
     let t = c.types;
     let v = c.vars;
     let i = c.inputs;
-    if 9216 <= i {
+    if MOST_INPUTS <= i {
         return c;
     }
     let y = clip(c, x);
@@ -598,18 +636,33 @@ pub fn lambda(m: &mut [u16], c: Counts, n: NodeId, o: TypeId, r: InputRange) -> 
     ensures { λ s. ⌜ made s (now (m .exit)) ≡ partsIn (now (m .entry)) c lambda-head (n .0) (o .0) (r .first) (r .count) ⌝ }
 {
     let a = n.0;
-    append_parts(m, c, 13, a, o, r)
+    append_parts(m, c, HEAD_LAMBDA, a, o, r)
 }
 
 // The type of functions of a SPAN, with the inputs that stand at r. If a part of it is not there, the answer is row 0.
 pub fn function(m: &mut [u16], c: Counts, span: u16, o: TypeId, r: InputRange) -> Made
     ensures { λ s. ⌜ made s (now (m .exit)) ≡ partsIn (now (m .entry)) c param-head span (o .0) (r .first) (r .count) ⌝ }
 {
-    append_parts(m, c, 6, span, o, r)
+    append_parts(m, c, HEAD_PARAM, span, o, r)
 }
 
 // The fields of `Types`, by head.
-const FIXED_HEADS: [u16; 14] = [9, 0, 1, 1, 1, 1, 2, 2, 2, 2, 3, 4, 10, 11];
+const FIXED_HEADS: [u16; 14] = [
+    HEAD_NIL,
+    HEAD_BOOL,
+    HEAD_UINT,
+    HEAD_UINT,
+    HEAD_UINT,
+    HEAD_UINT,
+    HEAD_INT,
+    HEAD_INT,
+    HEAD_INT,
+    HEAD_INT,
+    HEAD_FLOAT,
+    HEAD_DOUBLE,
+    HEAD_ERROR,
+    HEAD_DIVERGES,
+];
 // Their widths.
 const FIXED_WIDTHS: [u16; 14] = [0, 0, 0, 1, 2, 3, 0, 1, 2, 3, 0, 0, 0, 0];
 
@@ -677,7 +730,7 @@ fn onward(m: &[u16], c: Counts, x: TypeId) -> Bound
     ensures { λ r. ⌜ r ≡ onwardIn (now (m .entry)) c x ⌝ }
 {
     let h = head(m, c, x);
-    if h == 12 {
+    if h == HEAD_INFER_TY {
         let u = number(m, c, x);
         return bound_to(m, c, VarId(u));
     }

@@ -13,6 +13,20 @@ ghost use Rattle.unify.specs.Step.{Settled, Chased, Heeded, Met, Varied,
 ghost use Rattle.unify.specs.Unify.{isSuccess, Eached, Entered, Unified, answerOf, heldIn, Solved};
 use type_table::Bound;
 use type_table::Counts;
+use type_table::HEAD_ARRAY;
+use type_table::HEAD_BOOL;
+use type_table::HEAD_DIVERGES;
+use type_table::HEAD_DOUBLE;
+use type_table::HEAD_ERROR;
+use type_table::HEAD_FLOAT;
+use type_table::HEAD_INFER_TY;
+use type_table::HEAD_INSTANCE;
+use type_table::HEAD_INT;
+use type_table::HEAD_LAMBDA;
+use type_table::HEAD_NIL;
+use type_table::HEAD_PARAM;
+use type_table::HEAD_REF;
+use type_table::HEAD_UINT;
 use type_table::InputRange;
 use type_table::Kind;
 use type_table::TypeId;
@@ -40,11 +54,11 @@ fn class(m: &[u16], c: Counts, z: TypeId) -> Kind
 {
     let h = type_table::head(m, c, z);
     match h {
-        1 => Kind::Integer,
-        2 => Kind::Integer,
-        3 => Kind::Float,
-        4 => Kind::Float,
-        12 => {
+        HEAD_UINT => Kind::Integer,
+        HEAD_INT => Kind::Integer,
+        HEAD_FLOAT => Kind::Float,
+        HEAD_DOUBLE => Kind::Float,
+        HEAD_INFER_TY => {
             let u = type_table::number(m, c, z);
             type_table::kind_of(m, c, VarId(u))
         }
@@ -76,7 +90,7 @@ fn cause_of(m: &[u16], c: Counts, z: TypeId) -> Reply
     ensures { λ r. ⌜ Caused (now (m .entry)) c z r ⌝ }
 {
     let h = type_table::head(m, c, z);
-    if h == 12 {
+    if h == HEAD_INFER_TY {
         let u = type_table::number(m, c, z);
         return match type_table::kind_of(m, c, VarId(u)) {
             Kind::Regular => Reply::KindOrder,
@@ -92,10 +106,10 @@ fn signed(m: &[u16], c: Counts, z: TypeId) -> bool
     ensures { λ r. ⌜ Signed (now (m .entry)) c z r ⌝ }
 {
     let h = type_table::head(m, c, z);
-    if h == 2 {
+    if h == HEAD_INT {
         return true;
     }
-    h == 12
+    h == HEAD_INFER_TY
 }
 
 // Whether a row is that of the variable v.
@@ -103,7 +117,7 @@ fn same_var(m: &[u16], c: Counts, v: VarId, z: TypeId) -> bool
     ensures { λ r. ⌜ SameVar (now (m .entry)) c v z r ⌝ }
 {
     let h = type_table::head(m, c, z);
-    if h == 12 {
+    if h == HEAD_INFER_TY {
         let u = type_table::number(m, c, z);
         let w = v.0;
         return u == w;
@@ -138,7 +152,7 @@ enum Decision {
 fn compared(h: u16) -> bool
     ensures { λ r. ⌜ r ≡ compared·T h ⌝ }
 {
-    if h < 6 { true } else { h == 9 }
+    if h < HEAD_PARAM { true } else { h == HEAD_NIL }
 }
 
 fn both(a: u16, x: u16, b: u16, y: u16) -> bool
@@ -167,25 +181,25 @@ fn choose(e: u16, g: u16) -> Decision
     if equal_bases(e, g) {
         return Decision::Compare;
     }
-    if g == 11 {
+    if g == HEAD_DIVERGES {
         return Decision::Same;
     }
-    if both(e, 8, g, 8) {
+    if both(e, HEAD_ARRAY, g, HEAD_ARRAY) {
         return Decision::Down;
     }
-    if e == 12 {
+    if e == HEAD_INFER_TY {
         return Decision::Left;
     }
-    if g == 12 {
+    if g == HEAD_INFER_TY {
         return Decision::Right;
     }
-    if both(e, 6, g, 13) {
+    if both(e, HEAD_PARAM, g, HEAD_LAMBDA) {
         return Decision::Down;
     }
-    if both(e, 13, g, 6) {
+    if both(e, HEAD_LAMBDA, g, HEAD_PARAM) {
         return Decision::Swap;
     }
-    if either(e, g, 10) {
+    if either(e, g, HEAD_ERROR) {
         return Decision::Same;
     }
     Decision::Differ
@@ -203,13 +217,13 @@ fn base_code(h: u16, a: u16) -> u32
     ensures { λ r. ⌜ r ≡ code h a ⌝ }
 {
     match h {
-        0 => 1,
-        1 => capped(a) as u32 + 2,
-        2 => capped(a) as u32 + 6,
-        3 => 10,
-        4 => 11,
-        5 => a as u32 + 13,
-        9 => 12,
+        HEAD_BOOL => 1,
+        HEAD_UINT => capped(a) as u32 + 2,
+        HEAD_INT => capped(a) as u32 + 6,
+        HEAD_FLOAT => 10,
+        HEAD_DOUBLE => 11,
+        HEAD_INSTANCE => a as u32 + 13,
+        HEAD_NIL => 12,
         _ => 0,
     }
 }
@@ -292,13 +306,13 @@ fn push_parts(q: &mut [u16; 9244], m: &[u16], c: Counts, x: TypeId, tail: usize)
     let n = c.types;
     let h = type_table::head(m, c, x);
     match h {
-        6 | 13 => {
+        HEAD_PARAM | HEAD_LAMBDA => {
             let o = type_table::output(m, c, x);
             let t = push(q, n, tail, o);
             let r = type_table::inputs(m, c, x);
             push_inputs(q, m, n, r, t)
         }
-        8 | 14 => {
+        HEAD_ARRAY | HEAD_REF => {
             let e = type_table::number(m, c, x);
             push(q, n, tail, TypeId(e))
         }
@@ -311,7 +325,7 @@ fn visit(q: &mut [u16; 9244], m: &[u16], c: Counts, v: VarId, x: TypeId, tail: u
     ensures { λ r. ⌜ Visited (now (m .entry)) c v x (now (q .entry)) tail (now (q .exit)) r ⌝ }
 {
     let h = type_table::head(m, c, x);
-    if h == 12 {
+    if h == HEAD_INFER_TY {
         let u = type_table::number(m, c, x);
         let w = v.0;
         if u == w {
@@ -382,15 +396,15 @@ fn leads(m: &[u16], c: Counts, v: VarId, x: TypeId) -> Lead
 {
     let h = type_table::head(m, c, x);
     match h {
-        8 | 14 => {
+        HEAD_ARRAY | HEAD_REF => {
             let e = type_table::number(m, c, x);
             Lead::To(TypeId(e))
         }
-        12 => {
+        HEAD_INFER_TY => {
             let u = type_table::number(m, c, x);
             leads_var(m, c, v, VarId(u))
         }
-        6 | 13 => Lead::Parts,
+        HEAD_PARAM | HEAD_LAMBDA => Lead::Parts,
         _ => Lead::End,
     }
 }
@@ -429,7 +443,7 @@ fn seek(m: &[u16], c: Counts, v: VarId, z: TypeId) -> Found
     let mut n = c.types as u32 + 1;
     while 0 < n {
         let h = type_table::head(m, c, x);
-        if h == 12 {
+        if h == HEAD_INFER_TY {
             let u = type_table::number(m, c, x);
             match leads_var(m, c, v, VarId(u)) {
                 Lead::At => {
@@ -499,7 +513,7 @@ fn heed(m: &mut [u16], c: Counts, v: VarId, z: TypeId) -> Next
 {
     if signed(m, c, z) {
         let h = type_table::head(m, c, z);
-        if h == 12 {
+        if h == HEAD_INFER_TY {
             let u = type_table::number(m, c, z);
             type_table::mark(m, c, VarId(u));
             return chase(m, c, v, z);
@@ -527,7 +541,7 @@ fn variable(m: &mut [u16], c: Counts, x: TypeId, z: TypeId) -> Next
     ensures { λ r. ⌜ Varied (now (m .entry)) c x z (now (m .exit)) r ⌝ }
 {
     let h = type_table::head(m, c, x);
-    if h == 12 {
+    if h == HEAD_INFER_TY {
         let u = type_table::number(m, c, x);
         let k = type_table::kind_of(m, c, VarId(u));
         let l = class(m, c, z);
@@ -546,7 +560,7 @@ fn down(m: &[u16], c: Counts, x: TypeId, y: TypeId) -> Next
 {
     let h = type_table::head(m, c, x);
     let k = type_table::head(m, c, y);
-    if both(h, 8, k, 8) {
+    if both(h, HEAD_ARRAY, k, HEAD_ARRAY) {
         let a = type_table::number(m, c, x);
         let b = type_table::number(m, c, y);
         return Next::On(TypeId(a), TypeId(b));
