@@ -28,10 +28,10 @@ use Rattle.unify.specs.declared.Grown.{Grown}
 use Rattle.unify.specs.declared.Grown.the-variants.{Hit, Tail}
 use Rattle.unify.specs.declared.Lead.{Lead}
 use Rattle.unify.specs.declared.Lead.the-variants.{At, End, Parts, To}
-use Rattle.unify.specs.Leaf.{rowsIn}
 use Rattle.unify.specs.Search.{Queue, queue, pushF, pushAll, parts, bindsIn, nextIn, leadsIn, Visited, ReachedK, Reached, LedVar, Led, Stands, seekIn, Sought}
 use Rattle.type_table.specs.Tables.{bound-at, length-rows}
 use Rattle.unify.specs.Bridge.{var-row, no-var-row, kids-row}
+use Rattle.unify.specs.Promise.{rowsIn}
 
 -- ── pushing ──
 

@@ -27,13 +27,14 @@ use Rattle.unify.specs.declared.Next.{Next}
 use Rattle.unify.specs.declared.Next.the-variants.{Done, On, Into}
 use Rattle.unify.specs.declared.Found.{Found}
 use Rattle.unify.specs.declared.Found.the-variants.{Free, Ring, Inside, Lost}
-use Rattle.unify.specs.Leaf.{rowsIn, kindsIn, memIn, rowIn, kindK, stepK, Classed, Caused, Signed, SameVar, Compared}
+use Rattle.unify.specs.Leaf.{kindK, stepK, Classed, Caused, Signed, SameVar, Compared}
 use Rattle.unify.specs.Search.{seekIn, Sought, parts}
-use Rattle.unify.specs.Step.{Frame, Rec, resume, Parted, Enterable, Settled, Chased, Heeded, Met, Varied, downTo, Stepped}
+use Rattle.unify.specs.Step.{Rec, resume, Parted, Enterable, Settled, Chased, Heeded, Met, Varied, downTo, Stepped}
 use Rattle.type_table.specs.Tables.{bound-at, mark-at}
 use Rattle.unify.specs.Bridge.{head-row, var-row, no-var-row, kids-row}
 use Rattle.unify.specs.Frames.{frame-same, frame-trans, held-on, rows-same, kinds-same, marking-frame, marking-mem, binding-frame, binding-mem}
 use Rattle.unify.proofs.Laws.{kind-in}
+use Rattle.unify.specs.Promise.{Frame, kindsIn, memIn, rowIn, rowsIn}
 
 -- ── an open variable ──
 

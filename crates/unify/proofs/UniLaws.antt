@@ -23,10 +23,11 @@ use Rattle.unify.specs.declared.Reply.{Reply}
 use Rattle.unify.specs.declared.Reply.the-variants.{Success, Mismatch, KindOrder, Refused12, Refused13, Dry}
 use Rattle.unify.specs.declared.Next.{Next}
 use Rattle.unify.specs.declared.Next.the-variants.{Done, On, Into}
-use Rattle.unify.specs.Leaf.{rowsIn, kindsIn, memIn, outK}
-use Rattle.unify.specs.Step.{Frame, Rec, resume, Parted, Stepped}
-use Rattle.unify.specs.Unify.{isSuccess, Ran, by, Unified, Entered, Eached, answerOf, answerIs, numbers, heldIn, solveIn, Solved}
+use Rattle.unify.specs.Leaf.{outK}
+use Rattle.unify.specs.Step.{Rec, resume, Parted, Stepped}
+use Rattle.unify.specs.Unify.{isSuccess, Ran, by, Unified, Entered, Eached, answerOf}
 use Rattle.unify.specs.Frames.{frame-same, frame-trans, held-on, rows-same, kinds-same, inputs-same}
+use Rattle.unify.specs.Promise.{Frame, Solved, answerIs, heldIn, kindsIn, memIn, numbers, rowsIn, solveIn}
 
 -- a success goes on
 goes-on : (a : Reply) (m : Mem) (f : Mem → Res) → isSuccess a ≡ true → andThen (outK a, m) f ≡ f m

@@ -1,5 +1,5 @@
 -- What the library claims, one citation each: first of the code's promises, then of the rules. Each assumption is an argument of the statement.
--- The contracts in src/lib.rt of `type_table` and `unify` cite the definitions Memory, View and Made there and Unify here.
+-- The contracts in src/lib.rt of `type_table` and `unify` cite the definitions Memory, View and Made there and Promise here.
 use mathlib.Core.Path.{_≡_}
 use mathlib.Core.Logic.{_≢_, _↔_}
 use mathlib.Core.List.{List, [], _∷_, _++_, map}
@@ -25,13 +25,12 @@ use Rattle.type_table.specs.Sound.{Sound}
 use Rattle.type_table.specs.Promises.{follow-promise}
 use Rattle.unify.specs.declared.Answer.{Answer}
 use Rattle.unify.specs.declared.Answer.the-variants.{Success}
-use Rattle.unify.specs.Leaf.{rowsIn, kindsIn}
 use Rattle.unify.specs.Search.{bindsIn}
-use Rattle.unify.specs.Unify.{solveIn, SolvedBy, Solved}
 use Rattle.unify.specs.Keeps as keeps
 use Rattle.unify.specs.Meaning.{rowOf, PlainSides, Fails}
 use Rattle.unify.specs.Meaning as meaning
 use Rattle.unify.specs.Follow as follow
+use Rattle.unify.specs.Promise.{Solved, SolvedBy, kindsIn, rowsIn, solveIn}
 
 -- ── 1. the promise of `unify` ──
 

@@ -17,9 +17,9 @@ use Rattle.type_table.specs.Memory.{headAt, numberAt, bindingAt}
 use Rattle.type_table.specs.View.{type, variable, boundCode, boundIn, onwardIn, endBy, endFrom, endIn}
 use Rattle.type_table.specs.Tables.{bound-at, length-rows}
 use Rattle.type_table.specs.Sound.{Sound}
-use Rattle.unify.specs.Leaf.{rowsIn}
 use Rattle.unify.specs.Search.{bindsIn}
 use Rattle.unify.specs.Bridge.{var-row}
+use Rattle.unify.specs.Promise.{rowsIn}
 
 -- a row that is bound is that of a variable, and its binding stands in the tables
 pub record Onward (m : List ℕ) (c : Counts) (x y : ℕ) : Type 0 where

@@ -15,9 +15,9 @@ use Rattle.theory.specs.Rules.{bind}
 use Rattle.type_table.specs.declared.Counts.{Counts}
 use Rattle.type_table.specs.Memory.{pick, cell, rows-at, inputs-at, rowCell, headAt, numberAt, outputAt, firstAt, countAt, inputsFrom, shapeAt, rowsOf, kindAt, kindsOf, bindingAt, bindsOf, markAt, marksOf, memOf, Held}
 use Rattle.type_table.specs.Made.{marking, binding}
-use Rattle.unify.specs.Step.{Frame}
 use Rattle.type_table.specs.Tables.{tab-ext}
 use Rattle.type_table.specs.Keeps.{mark-binds, mark-marks, bind-mem}
+use Rattle.unify.specs.Promise.{Frame}
 
 pub frame-same : (m : List ℕ) (c : Counts) → Frame m c m
 frame-same m c = record { size = refl; same = λ i h. refl; unbound = λ v e. (refl, refl); unmarked = λ v e. refl }

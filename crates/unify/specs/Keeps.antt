@@ -22,9 +22,8 @@ use Rattle.type_table.specs.Tables.{bound-at, mark-at, length-rows}
 use Rattle.type_table.specs.Sound.{Sound}
 use Rattle.type_table.specs.Keeps.{laid-held, low-sound}
 use Rattle.unify.specs.declared.Answer.{Answer}
-use Rattle.unify.specs.Leaf.{rowsIn, kindsIn, memIn}
-use Rattle.unify.specs.Unify.{heldIn, solveIn, SolvedBy, Solved}
 use Rattle.unify.specs.Frames.{kinds-same}
+use Rattle.unify.specs.Promise.{Solved, SolvedBy, heldIn, kindsIn, memIn, rowsIn, solveIn}
 
 -- ── sound tables ──
 

@@ -4,37 +4,27 @@ use mathlib.Core.List.{List}
 use mathlib.Core.Bool.{Bool, cond}
 use Prim.Native.Nat.{ℕ, _+_}
 use lib.Dec.{eqb, ltb}
-use Rattle.theory.specs.Rules.{Shape, Step, same, compare, left, right, down, swap, differ, Out, success, mismatch, kindOrder, refused12, refused13, dry, Mem, row, asVar, fits, kindFits, cause, signed, isSame, alike, regular, integer, floating}
+use Rattle.theory.specs.Rules.{Step, same, compare, left, right, down, swap, differ, Out, success, mismatch, kindOrder, refused12, refused13, dry, row, asVar, fits, kindFits, cause, signed, isSame, alike, regular, integer, floating}
 use Rattle.theory.specs.Rules.{Kind as KindT}
 use Rattle.type_table.specs.declared.Counts.{Counts}
 use Rattle.type_table.specs.declared.TypeId.{TypeId}
 use Rattle.type_table.specs.declared.VarId.{VarId}
 use Rattle.type_table.specs.declared.Kind.{Kind}
 use Rattle.type_table.specs.declared.Kind.the-variants.{Regular, Integer, Float}
-use Rattle.type_table.specs.Memory.{pick, rowsOf, kindsOf, memOf}
+use Rattle.type_table.specs.Memory.{pick}
 use Rattle.unify.specs.declared.Decision.{Decision}
 use Rattle.unify.specs.declared.Decision.the-variants.{Same, Compare, Left, Right, Down, Swap, Differ}
 use Rattle.unify.specs.declared.Reply.{Reply}
 use Rattle.unify.specs.declared.Reply.the-variants.{Success, Mismatch, KindOrder, Refused12, Refused13, Dry}
+use Rattle.unify.specs.Promise.{kindsIn, rowIn}
 
-abbrev pub rowsIn : List ℕ → Counts → List Shape
-rowsIn m c = rowsOf m (c .types)
-
-abbrev pub kindsIn : List ℕ → Counts → List KindT
-kindsIn m c = kindsOf m (c .vars)
-
-abbrev pub memIn : List ℕ → Counts → Mem
-memIn m c = memOf m (c .vars)
-
--- the row x of a memory
-abbrev pub rowIn : List ℕ → Counts → TypeId → Shape
-rowIn m c x = row (rowsIn m c) (x .0)
-
+-- a kind as the rules name it
 abbrev pub kindK : Kind → KindT
 kindK Regular = regular
 kindK Integer = integer
 kindK Float = floating
 
+-- an inner answer as the rules name it
 abbrev pub outK : Reply → Out
 outK Success = success
 outK Mismatch = mismatch
@@ -43,6 +33,7 @@ outK Refused12 = refused12
 outK Refused13 = refused13
 outK Dry = dry
 
+-- a step as the rules name it
 abbrev pub stepK : Decision → Step
 stepK Same = same
 stepK Compare = compare
@@ -56,18 +47,23 @@ stepK Differ = differ
 abbrev pub Classed : List ℕ → Counts → TypeId → Kind → Type 0
 Classed m c z r = (k : KindT) → fits (kindsIn m c) k (rowIn m c z) ≡ kindFits k (kindK r)
 
+-- the cause is that of the rules
 abbrev pub Caused : List ℕ → Counts → TypeId → Reply → Type 0
 Caused m c z r = outK r ≡ cause (kindsIn m c) (asVar (rowIn m c z))
 
+-- a marked variable may meet the row
 abbrev pub Signed : List ℕ → Counts → TypeId → Bool → Type 0
 Signed m c z r = r ≡ signed (rowIn m c z)
 
+-- the row is that of v
 abbrev pub SameVar : List ℕ → Counts → VarId → TypeId → Bool → Type 0
 SameVar m c v z r = r ≡ isSame (v .0) (asVar (rowIn m c z))
 
+-- the answer of step 1
 abbrev pub Compared : List ℕ → Counts → TypeId → TypeId → Reply → Type 0
 Compared m c x y r = outK r ≡ cond (alike (rowIn m c x) (rowIn m c y)) success mismatch
 
+-- a width, 3 for 64 bits
 abbrev pub cap : ℕ → ℕ
 cap a = pick (ltb a 3) a 3
 

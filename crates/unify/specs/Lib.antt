@@ -1,3 +1,4 @@
+pub mod Promise
 pub mod Leaf
 pub mod Search
 pub mod Step

@@ -1,32 +1,22 @@
 -- One step of unification in the memory: what is left to do, and what stays as it was.
 use mathlib.Core.Path.{_≡_}
-use mathlib.Core.Logic.{_≢_}
 use mathlib.Core.List.{List, _∷_}
-use mathlib.Core.Bool.{true, false, not, _&&_}
-use mathlib.Core.Option.{none}
-use Prim.Native.Nat.{ℕ, _+_, _*_, _<_}
-use lib.ListN.{length}
+use mathlib.Core.Bool.{true, not, _&&_}
+use Prim.Native.Nat.{ℕ}
 use lib.Dec.{eqb}
 use Rattle.theory.specs.Rules.{Shape, Mem, Res, row, asVar, kids, bound, isSame, signed, split, atVar, perform, move, other, heed, chase, settle}
 use Rattle.theory.specs.Rules.{Kind as KindT}
 use Rattle.type_table.specs.declared.Counts.{Counts}
 use Rattle.type_table.specs.declared.TypeId.{TypeId}
 use Rattle.type_table.specs.declared.VarId.{VarId}
-use Rattle.type_table.specs.Memory.{pick, cell, headAt, numberAt, outputAt, firstAt, countAt, inputsFrom, bindingAt, markAt, Held}
+use Rattle.type_table.specs.Memory.{pick, headAt, numberAt, outputAt, firstAt, countAt, inputsFrom, markAt, Held}
 use Rattle.type_table.specs.View.{type}
 use Rattle.unify.specs.declared.Reply.{Reply}
 use Rattle.unify.specs.declared.Next.{Next}
 use Rattle.unify.specs.declared.Next.the-variants.{Done, On, Into}
-use Rattle.unify.specs.Leaf.{outK, rowsIn, kindsIn, memIn, rowIn}
+use Rattle.unify.specs.Leaf.{outK}
 use Rattle.unify.specs.Search.{seekIn}
-
--- from m to w only bindings and marks have changed: no other cell, and neither the cells of a variable that is open nor those of one that is
--- unmarked
-pub record Frame (m : List ℕ) (c : Counts) (w : List ℕ) : Type 0 where
-  pub size : length w ≡ length m
-  pub same : (i : ℕ) → ((v k : ℕ) → v < c .vars → 1 < k → k < 5 → i ≢ v * 5 + k) → cell w i ≡ cell m i
-  pub unbound : (v : ℕ) → bindingAt w (c .vars) v ≡ none → (cell w (v * 5 + 2) ≡ cell m (v * 5 + 2)) × (cell w (v * 5 + 3) ≡ cell m (v * 5 + 3))
-  pub unmarked : (v : ℕ) → markAt w (c .vars) v ≡ false → cell w (v * 5 + 4) ≡ cell m (v * 5 + 4)
+use Rattle.unify.specs.Promise.{Frame, kindsIn, memIn, rowIn, rowsIn}
 
 -- how two rows are unified further on
 abbrev pub Rec : Type 0
@@ -42,6 +32,7 @@ resume rows kinds rec m (Into x y) = perform rows kinds rec m (split (kids (row 
 abbrev pub Parted : List ℕ → Counts → TypeId → Type 0
 Parted m c x = kids (rowIn m c x) ≡ outputAt m (c .types) (x .0) ∷ inputsFrom m (firstAt m (c .types) (x .0)) (countAt m (c .types) (x .0))
 
+-- what is to be entered is made of an output and inputs
 abbrev pub Enterable : List ℕ → Counts → Next → Type 0
 Enterable m c (Done a) = Unit {0}
 Enterable m c (On x y) = Unit {0}
@@ -53,18 +44,23 @@ pub record Went (m : List ℕ) (c : Counts) (w : List ℕ) (r : Next) (F : Rec �
   pub left-over : (rec : Rec) → F rec ≡ resume (rowsIn m c) (kindsIn m c) rec (memIn w c) r
   pub enterable : Enterable w c r
 
+-- what `settle` does: an open variable against a row
 abbrev pub Settled : List ℕ → Counts → VarId → TypeId → List ℕ → Reply → Type 0
 Settled m c v z w a = Held m c → Frame m c w × (settle (memIn m c) (v .0) (z .0) (seekIn m c (v .0) (z .0)) ≡ (outK a, memIn w c))
 
+-- what `chase` does: a variable against a row, by its binding
 abbrev pub Chased : List ℕ → Counts → VarId → TypeId → List ℕ → Next → Type 0
 Chased m c v z w r = Held m c → Went m c w r (λ rec. chase (rowsIn m c) (kindsIn m c) rec (memIn m c) (v .0) (z .0) (bound (memIn m c .binds) (v .0)))
 
+-- what `heed` does: a marked variable against another row
 abbrev pub Heeded : List ℕ → Counts → VarId → TypeId → List ℕ → Next → Type 0
 Heeded m c v z w r = Held m c → markAt m (c .vars) (v .0) ≡ true → Went m c w r (λ rec. heed (rowsIn m c) (kindsIn m c) rec (memIn m c) (v .0) (z .0) (not (signed (rowIn m c z))))
 
+-- what `meet` does: a variable against a row of its kind
 abbrev pub Met : List ℕ → Counts → VarId → TypeId → List ℕ → Next → Type 0
 Met m c v z w r = Held m c → Went m c w r (λ rec. other (rowsIn m c) (kindsIn m c) rec (memIn m c) (v .0) (z .0) (isSame (v .0) (asVar (rowIn m c z))))
 
+-- what `variable` does: step 3, if the row x is a variable
 abbrev pub Varied : List ℕ → Counts → TypeId → TypeId → List ℕ → Next → Type 0
 Varied m c x z w r = Held m c → Went m c w r (λ rec. perform (rowsIn m c) (kindsIn m c) rec (memIn m c) (atVar (asVar (rowIn m c x)) (z .0)))
 
@@ -72,5 +68,6 @@ Varied m c x z w r = Held m c → Went m c w r (λ rec. perform (rowsIn m c) (ki
 unfoldable pub downTo : List ℕ → Counts → TypeId → TypeId → Next
 downTo m c x y = pick (eqb (headAt m (c .types) (x .0)) 8 && eqb (headAt m (c .types) (y .0)) 8) (On (type (numberAt m (c .types) (x .0))) (type (numberAt m (c .types) (y .0)))) (Into x y)
 
+-- what `step` does: one step of the rules
 abbrev pub Stepped : List ℕ → Counts → TypeId → TypeId → List ℕ → Next → Type 0
 Stepped m c x y w r = Held m c → Went m c w r (λ rec. perform (rowsIn m c) (kindsIn m c) rec (memIn m c) (move (rowsIn m c) (kindsIn m c) (x .0) (y .0)))

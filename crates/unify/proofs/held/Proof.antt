@@ -1,7 +1,7 @@
-use Rattle.unify.specs.Unify.{heldIn}
 use borrow.Author.Tests.{lt-ltb, le-ltb}
 use Rattle.unify.proofs.held.Statement.{statement}
 use Rattle.unify.proofs.held.Tie as tie
+use Rattle.unify.specs.Promise.{heldIn}
 
 pub held-spec : {M : Type 1} → statement M
 unfolding heldIn
