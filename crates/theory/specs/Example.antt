@@ -21,6 +21,7 @@ fields = base nil ∷ base bool ∷ base (uint w8) ∷ base (uint w16) ∷ base 
 unfoldable pub worked : Prog (Unit {0}) (Unit {0}) ℕ
 worked = draw integer none (λ r. equate 5 8 r (λ o. tt) (λ c. equate 6 8 8 (λ o. tt) (λ d. done r)))
 
+-- the state in which it ends
 abbrev pub end : St (Unit {0}) (Unit {0})
 end = (run worked (start fields tt)) .1
 

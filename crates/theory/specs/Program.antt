@@ -10,6 +10,7 @@ use Rattle.theory.specs.Rules.{Base, bool, nil, float, double, uint, int
 
 -- ── made types ──
 
+-- an instance has its number
 abbrev pub madeOfBase : Base → Option ℕ
 madeOfBase bool = none
 madeOfBase nil = none
@@ -31,6 +32,7 @@ madeOf (lam n o i) = none
 madeOf err = none
 madeOf div = none
 
+-- both there and equal
 abbrev pub equalNumbers : Option ℕ → Option ℕ → Bool
 equalNumbers none o = false
 equalNumbers (some a) none = false
@@ -45,10 +47,12 @@ abbrev pub firstEqual : ℕ → List Shape → Shape → Option ℕ
 firstEqual n [] s = none
 firstEqual n (t ∷ l) s = let r = firstEqual (suc n) l s in cond (equalRows t s) (some n) r
 
+-- all of them are below n
 abbrev pub allBelow : ℕ → List ℕ → Bool
 allBelow n [] = true
 allBelow n (y ∷ ys) = ltb y n && allBelow n ys
 
+-- it is no variable
 abbrev pub noVar : Option ℕ → Bool
 noVar none = true
 noVar (some v) = false
@@ -65,6 +69,7 @@ pub record Equation : Type 0 where
   pub got : ℕ
   pub answer : Out
 
+-- the tables of a walk, its log and errors
 pub record St (X Er : Type 0) : Type 0 where
   pub rows : List Shape
   pub kinds : List Kind
@@ -101,24 +106,31 @@ abbrev pub clip : ℕ → ℕ → ℕ
 clip n x = cond (ltb x n) x 0
 
 module _ {X Er : Type 0} where
+  -- a new variable, open and unmarked, and its row
   unfoldable pub drawn : Kind → Option ℕ → St X Er → St X Er
   drawn k o s = record { rows = s .rows ++ var (length (s .mem .binds)) ∷ []; kinds = s .kinds ++ k ∷ []; origins = s .origins ++ o ∷ []; mem = record { binds = s .mem .binds ++ none ∷ []; marks = s .mem .marks ++ false ∷ [] }; log = s .log; errs = s .errs; stop = s .stop; own = s .own }
 
+  -- a new row
   unfoldable pub appended : Shape → St X Er → St X Er
   appended t s = record { rows = s .rows ++ t ∷ []; kinds = s .kinds; origins = s .origins; mem = s .mem; log = s .log; errs = s .errs; stop = s .stop; own = s .own }
 
+  -- one error more
   unfoldable pub emitted : Er → St X Er → St X Er
   emitted e s = record { rows = s .rows; kinds = s .kinds; origins = s .origins; mem = s .mem; log = s .log; errs = e ∷ s .errs; stop = s .stop; own = s .own }
 
+  -- the walk's own is changed
   unfoldable pub written : X → St X Er → St X Er
   written x s = record { rows = s .rows; kinds = s .kinds; origins = s .origins; mem = s .mem; log = s .log; errs = s .errs; stop = s .stop; own = x }
 
+  -- the walk ends with this number at this node
   unfoldable pub refused : ℕ → ℕ → St X Er → St X Er
   refused n p s = record { rows = s .rows; kinds = s .kinds; origins = s .origins; mem = s .mem; log = s .log; errs = s .errs; stop = some (n, p); own = s .own }
 
+  -- a mark is set
   unfoldable pub marking : ℕ → St X Er → St X Er
   marking v s = record { rows = s .rows; kinds = s .kinds; origins = s .origins; mem = record { binds = s .mem .binds; marks = set (s .mem .marks) v true }; log = s .log; errs = s .errs; stop = s .stop; own = s .own }
 
+  -- an equation was raised: its bindings and marks, and its entry in the log
   unfoldable pub raised : ℕ → ℕ → Res → St X Er → St X Er
   raised e g r s = record { rows = s .rows; kinds = s .kinds; origins = s .origins; mem = r .1; log = record { expected = e; got = g; answer = r .0 } ∷ s .log; errs = s .errs; stop = s .stop; own = s .own }
 
@@ -127,6 +139,7 @@ module _ {X Er : Type 0} where
   pooled t none s = (length (s .rows), appended t s)
   pooled t (some r) s = (r, s)
 
+  -- made only of what stands
   abbrev pub internIf : Bool → Shape → St X Er → ℕ × St X Er
   internIf true t s = pooled t (firstEqual 0 (s .rows) t) s
   internIf false t s = (0, s)
@@ -144,6 +157,7 @@ unfoldable pub solve : List Shape → List Kind → Mem → ℕ → ℕ → Res
 solve rows kinds m e g = unify rows kinds (fuel rows m) m e g
 
 module _ {X Er : Type 0} where
+  -- an equation over the tables of a state
   abbrev pub solved : ℕ → ℕ → St X Er → Res
   solved e g s = solve (s .rows) (s .kinds) (s .mem) e g
 
@@ -156,6 +170,7 @@ module _ {X Er : Type 0} where
   react p refused13 f k s = (none, refused 13 p s)
   react p dry f k s = (none, refused 12 p s)
 
+  -- what running a program does
   unfoldable pub run : {A : Type 0} → Prog X Er A → St X Er → Option A × St X Er
   run (done a) s = (some a, s)
   run (refuse n p) s = (none, refused n p s)
@@ -170,6 +185,7 @@ module _ {X Er : Type 0} where
   run (read f) s = run (f s) s
   run (write x p) s = run p (written x s)
 
+  -- one program after another
   unfoldable pub _>>=_ : {A B : Type 0} → Prog X Er A → (A → Prog X Er B) → Prog X Er B
   _>>=_ (done a) g = g a
   _>>=_ (refuse n p) g = refuse n p

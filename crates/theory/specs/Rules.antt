@@ -37,33 +37,43 @@ pub data Kind : Type 0 where
 abbrev pub instance-head : ℕ
 instance-head = 5
 
+-- `Param`: a function type
 abbrev pub param-head : ℕ
 param-head = 6
 
+-- `FnDef`
 abbrev pub fn-def-head : ℕ
 fn-def-head = 7
 
+-- `Array`
 abbrev pub array-head : ℕ
 array-head = 8
 
+-- `Nil`
 abbrev pub nil-head : ℕ
 nil-head = 9
 
+-- `Error`
 abbrev pub error-head : ℕ
 error-head = 10
 
+-- `Diverges`
 abbrev pub diverges-head : ℕ
 diverges-head = 11
 
+-- `InferTy`: a variable
 abbrev pub infer-head : ℕ
 infer-head = 12
 
+-- `Lambda`
 abbrev pub lambda-head : ℕ
 lambda-head = 13
 
+-- `Ref`
 abbrev pub ref-head : ℕ
 ref-head = 14
 
+-- the head of a type that step 1 compares
 abbrev pub baseHead : Base → ℕ
 baseHead bool = 0
 baseHead (uint w) = 1
@@ -152,9 +162,11 @@ pub record Mem : Type 0 where
   pub binds : List (Option ℕ)
   pub marks : List Bool
 
+-- two rows, the expected and the got one
 abbrev pub Pair : Type 0
 Pair = ℕ × ℕ
 
+-- a result: the answer, and bindings and marks after it
 abbrev pub Res : Type 0
 Res = Out × Mem
 
@@ -163,10 +175,12 @@ pub data Act : Type 0 where
   go : List Pair → Out → Act
   at : ℕ → ℕ → Act
 
+-- a decision as a test
 abbrev pub isYes {ℓ} : {A : Type ℓ} → Dec A → Bool
 isYes (yes a) = true
 isYes (no f) = false
 
+-- a type that step 1 compares, against a row
 abbrev pub alikeBase : Base → Shape → Bool
 alikeBase b (base c) = isYes (base-discrete width-discrete ℕ-discrete b c)
 alikeBase b (var v) = false
@@ -190,6 +204,7 @@ alike (lam n o i) t = false
 alike err t = false
 alike div t = false
 
+-- two lists in pairs, as far as both go
 abbrev pub zip : List ℕ → List ℕ → List Pair
 zip [] ys = []
 zip (x ∷ xs) [] = []
@@ -199,6 +214,7 @@ zip (x ∷ xs) (y ∷ ys) = (x, y) ∷ zip xs ys
 unfoldable pub split : List ℕ → List ℕ → Act
 split xs ys = cond (eqb (length xs) (length ys)) (go (zip xs ys) success) (go (take 1 (zip xs ys)) mismatch)
 
+-- a variable against the row z; a mismatch for what is no variable
 unfoldable pub atVar : Option ℕ → ℕ → Act
 atVar none z = go [] mismatch
 atVar (some v) z = at v z
@@ -215,6 +231,7 @@ act x y s t differ = go [] mismatch
 
 -- ── step 3: the kind test ──
 
+-- integers
 abbrev pub intBase : Base → Bool
 intBase bool = false
 intBase nil = false
@@ -224,6 +241,7 @@ intBase (uint w) = true
 intBase (int w) = true
 intBase (inst k) = false
 
+-- Float and Double
 abbrev pub floatBase : Base → Bool
 floatBase bool = false
 floatBase nil = false
@@ -233,11 +251,13 @@ floatBase (uint w) = false
 floatBase (int w) = false
 floatBase (inst k) = false
 
+-- what a variable of a kind may be, of the types that step 1 compares
 abbrev pub baseFits : Kind → Base → Bool
 baseFits regular b = true
 baseFits integer b = intBase b
 baseFits floating b = floatBase b
 
+-- a variable of the first kind against one of the second
 abbrev pub kindFits : Kind → Kind → Bool
 kindFits regular k = true
 kindFits integer regular = false
@@ -247,17 +267,21 @@ kindFits floating regular = false
 kindFits floating integer = false
 kindFits floating floating = true
 
+-- a Regular variable may be anything
 abbrev pub isRegular : Kind → Bool
 isRegular regular = true
 isRegular integer = false
 isRegular floating = false
 
+-- a variable's binding, none for what is no variable
 abbrev pub bound : List (Option ℕ) → ℕ → Option ℕ
 bound b v = getD b v none
 
+-- a row of the table, Nil for what is none
 abbrev pub row : List Shape → ℕ → Shape
 row rows x = getD rows x (base nil)
 
+-- a variable's kind, Regular for what is no variable
 abbrev pub kind : List Kind → ℕ → Kind
 kind kinds v = getD kinds v regular
 
@@ -280,9 +304,11 @@ cause kinds (some u) = cond (isRegular (kind kinds u)) kindOrder mismatch
 
 -- ── step 3: negation marks ──
 
+-- whether a variable carries a negation mark
 abbrev pub marked : Mem → ℕ → Bool
 marked m v = getD (m .marks) v false
 
+-- Int
 abbrev pub signedBase : Base → Bool
 signedBase bool = false
 signedBase nil = false
@@ -304,6 +330,7 @@ signed (lam n o i) = false
 signed err = false
 signed div = false
 
+-- a mark, if there is one, goes to the other side, if that is a variable
 abbrev pub passTo : Bool → Option ℕ → List Bool → List Bool
 passTo false o l = l
 passTo true none l = l
@@ -317,10 +344,12 @@ pass m v s = record { binds = m .binds; marks = passTo (marked m v) (asVar s) (m
 
 -- a function over the rows by steps, at most n of them
 module _ {A : Type 0} (step : (ℕ → A) → ℕ → A) (out : A) where
+  -- at most n steps
   abbrev pub iter : ℕ → ℕ → A
   iter zero x = out
   iter (suc n) x = step (iter n) x
 
+-- one row or none
 abbrev pub optList : Option ℕ → List ℕ
 optList none = []
 optList (some r) = r ∷ []
@@ -330,13 +359,16 @@ abbrev pub succs : List (Option ℕ) → Shape → Option ℕ → List ℕ
 succs b s none = kids s
 succs b s (some u) = optList (bound b u)
 
+-- where the row x leads
 abbrev pub next : List Shape → List (Option ℕ) → ℕ → List ℕ
 next rows b x = succs b (row rows x) (asVar (row rows x))
 
+-- whether a test holds of a row of a list
 abbrev pub any : (ℕ → Bool) → List ℕ → Bool
 any f [] = false
 any f (y ∷ ys) = f y || any f ys
 
+-- whether a row is that of v
 abbrev pub isSame : ℕ → Option ℕ → Bool
 isSame v none = false
 isSame v (some u) = eqb u v
@@ -346,6 +378,7 @@ pub data Found : Type 0 where
   free ring inside lost : Found
 
 module _ (rows : List Shape) (b : List (Option ℕ)) (v : ℕ) where
+  -- one step of `leads`
   abbrev pub leadsAt : (ℕ → Bool) → ℕ → Bool
   leadsAt f x = isSame v (asVar (row rows x)) || any f (next rows b x)
 
@@ -357,14 +390,17 @@ module _ (rows : List Shape) (b : List (Option ℕ)) (v : ℕ) where
   abbrev pub far : ℕ
   far = suc (length rows + length rows)
 
+  -- the binding, if there is one
   abbrev pub follow : (ℕ → Found) → Option ℕ → Found
   follow f none = free
   follow f (some r) = f r
 
+  -- one step of `seek`, by the variable that the row is
   abbrev pub seekVar : (ℕ → Found) → ℕ → Option ℕ → Found
   seekVar f x none = cond (leads far x) inside free
   seekVar f x (some u) = cond (eqb u v) ring (follow f (bound b u))
 
+  -- one step of `seek`
   abbrev pub seekAt : (ℕ → Found) → ℕ → Found
   seekAt f x = seekVar f x (asVar (row rows x))
 
@@ -372,6 +408,7 @@ module _ (rows : List Shape) (b : List (Option ℕ)) (v : ℕ) where
   unfoldable pub seek : ℕ → ℕ → Found
   seek n x = iter seekAt lost n x
 
+-- a variable is bound
 unfoldable pub bind : Mem → ℕ → ℕ → Mem
 bind m v z = record { binds = set (m .binds) v (some z); marks = m .marks }
 
@@ -384,6 +421,7 @@ settle m v z lost = (dry, m)
 
 -- ── unification ──
 
+-- success goes on with what comes next, any other answer ends
 abbrev pub onward : Out → Mem → (Mem → Res) → Res
 onward success m k = k m
 onward mismatch m k = (mismatch, m)
@@ -418,10 +456,12 @@ module _ (rows : List Shape) (kinds : List Kind) where
     suits m v z false = (cause kinds (asVar (row rows z)), m)
     suits m v z true = other m v z (isSame v (asVar (row rows z)))
 
+    -- pairs in order, then an answer
     abbrev pub each : List Pair → Out → Mem → Res
     each [] o m = (o, m)
     each (p ∷ ps) o m = andThen (rec m (p .0) (p .1)) (λ m′. each ps o m′)
 
+    -- what a step asks for is done
     abbrev pub perform : Mem → Act → Res
     perform m (go ps o) = each ps o m
     perform m (at v z) = suits m v z (fits kinds (kind kinds v) (row rows z))
