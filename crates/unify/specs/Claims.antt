@@ -8,7 +8,7 @@ use mathlib.Core.Bool.{true, false}
 use Prim.Native.Nat.{ℕ, _<_}
 use lib.ListN.{length}
 use Rattle.theory.specs.Rules.{Shape, Kind, success, kindOrder, refused13, Mem, Pair, row}
-use Rattle.theory.specs.Program.{Equation, St, Prog, madeOf, equalRows, firstEqual, run, solve}
+use Rattle.theory.specs.Program.{Equation, St, Prog, madeOf, equalRows, firstEqual, run, raised, solve, solved}
 use Rattle.theory.specs.Basics.{All}
 use Rattle.theory.specs.Ways.{Way, Kinded, den, Agrees, Sided, Meets, Went, Failed}
 use Rattle.theory.specs.Graph.{Good}
@@ -21,7 +21,7 @@ use Rattle.type_table.specs.declared.Counts.{Counts}
 use Rattle.type_table.specs.declared.TypeId.{TypeId}
 use Rattle.type_table.specs.declared.Bound.the-variants.{Open}
 use Rattle.type_table.specs.View.{type, onwardIn, endIn}
-use Rattle.type_table.specs.Sound.{Sound}
+use Rattle.type_table.specs.Sound.{Sound, stateOf}
 use Rattle.type_table.specs.Promises.{follow-promise}
 use Rattle.unify.specs.declared.Answer.{Answer}
 use Rattle.unify.specs.declared.Answer.the-variants.{Success}
@@ -30,7 +30,7 @@ use Rattle.unify.specs.Keeps as keeps
 use Rattle.unify.specs.Meaning.{rowOf, PlainSides, Fails}
 use Rattle.unify.specs.Meaning as meaning
 use Rattle.unify.specs.Follow as follow
-use Rattle.unify.specs.Promise.{Solved, SolvedBy, kindsIn, rowsIn, solveIn}
+use Rattle.unify.specs.Promise.{answerIs, Solved, SolvedBy, kindsIn, rowsIn, solveIn}
 
 -- ── 1. the promise of `unify` ──
 
@@ -45,6 +45,11 @@ keeps-sound = keeps.unify-sound
 -- in sound tables the steps never run out
 pub enough-steps : (m : List ℕ) (c : Counts) → Sound m c → (x y : TypeId) → Ended ((solveIn m c (x .0) (y .0)) .0)
 enough-steps = keeps.never-dry
+
+-- it does what the step `equate` of a program does with the tables in the memory
+pub equate-step : (m : List ℕ) (c : Counts) → Sound m c → (x y : TypeId) (w : List ℕ) (r : Answer) → Solved m c x y w r → {X Er : Type 0} (t : St X Er) → let e = rowOf c x in let g = rowOf c y in let q = solved e g (stateOf m c t) in
+    (stateOf w c (raised e g q t) ≡ raised e g q (stateOf m c t)) × (r ≡ answerIs (q .0))
+equate-step = keeps.unify-step
 
 -- ── 2. what an answer says, both sides and all bindings plain ──
 

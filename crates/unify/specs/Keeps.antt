@@ -12,18 +12,19 @@ use lib.Seq.{ext-getD}
 use lib.Dec.{eqb}
 use borrow.Author.Tests.{eq-eqb, ne-eqb, le-ltb, lt-leb}
 use Rattle.theory.specs.Rules.{Mem}
-use Rattle.theory.specs.Program.{clip}
+use Rattle.theory.specs.Program.{clip, St, solved, raised}
 use Rattle.theory.specs.Keep.{KeptBy, Ended, solve-kept}
 use Rattle.theory.specs.Demand.{clip-in}
 use Rattle.type_table.specs.declared.Counts.{Counts}
 use Rattle.type_table.specs.declared.TypeId.{TypeId}
-use Rattle.type_table.specs.Memory.{pick, cell, cells, most-types, most-vars, counts, bindingAt, markAt, bindsOf, memOf, Held}
+use Rattle.type_table.specs.Memory.{pick, cell, cells, most-types, most-vars, counts, bindingAt, markAt, bindsOf, memOf, originsOf, Held}
 use Rattle.type_table.specs.Tables.{bound-at, mark-at, length-rows}
-use Rattle.type_table.specs.Sound.{Sound}
+use Rattle.type_table.specs.Frames.{origins-kept}
+use Rattle.type_table.specs.Sound.{Sound, stateOf}
 use Rattle.type_table.specs.Keeps.{laid-held, low-sound}
 use Rattle.unify.specs.declared.Answer.{Answer}
-use Rattle.unify.specs.Frames.{kinds-same}
-use Rattle.unify.specs.Promise.{Solved, SolvedBy, heldIn, kindsIn, memIn, rowsIn, solveIn}
+use Rattle.unify.specs.Frames.{kinds-same, rows-same}
+use Rattle.unify.specs.Promise.{Solved, SolvedBy, answerIs, heldIn, kindsIn, memIn, rowsIn, solveIn}
 
 -- ── sound tables ──
 
@@ -56,6 +57,24 @@ module _ (m : List ℕ) (c : Counts) (sound : Sound m c) (x y : TypeId) where
           let held : Held m c = laid-held (sound .laid) in
           let binds : bindsOf w (c .vars) ≡ (solveIn m c (x .0) (y .0)) .1 .binds = ap (λ (z : Mem). z .binds) (t .memory) in
           low-sound (sound .laid) w (λ j h. t .frame .same j (λ v k a b d e. omega (arith, held .vars))) (t .frame .size) sound (kinds-same m c w (t .frame) held (c .vars)) (rw binds (solve-sound .good))
+
+-- ── the step of a program ──
+
+module _ (m : List ℕ) (c : Counts) (sound : Sound m c) (x y : TypeId) (w : List ℕ) (r : Answer) (s : Solved m c x y w r) where
+  -- the promise, with the counts as they are
+  by-itself : SolvedBy m c x y w r
+  by-itself = rw (held-sound m c sound) at s
+
+  origins-same : originsOf w (c .vars) ≡ originsOf m (c .vars)
+  origins-same = origins-kept m w (c .vars) (λ v h. by-itself .frame .same (v * 5 + 1) (λ u k a b d e. omega arith))
+
+  -- `unify` does what the step `equate` of a program does with the tables in the memory: the same answer, bindings and marks
+  pub unify-step : {X Er : Type 0} (t : St X Er) → let e = clip (c .types) (x .0) in let g = clip (c .types) (y .0) in let q = solved e g (stateOf m c t) in
+      (stateOf w c (raised e g q t) ≡ raised e g q (stateOf m c t)) × (r ≡ answerIs (q .0))
+  unfolding stateOf raised solveIn
+  unify-step t =
+      let held : Held m c = laid-held (sound .laid) in
+      (rw (rows-same m c w (by-itself .frame) held (c .types), kinds-same m c w (by-itself .frame) held (c .vars), origins-same, by-itself .memory), by-itself .answer)
 
 -- ── one answer and one memory ──
 
