@@ -6,7 +6,7 @@ use mathlib.Core.Option.{Option, none, some}
 use mathlib.Core.Bool.{true, false}
 use Prim.Native.Nat.{ℕ, _<_}
 use lib.ListN.{length}
-use Rattle.theory.specs.Rules.{Shape, Kind, success, kindOrder, refused13, Mem, Pair, row}
+use Rattle.theory.specs.Rules.{Shape, Kind, success, kindOrder, refused13, Mem, Pair, row, unify}
 use Rattle.theory.specs.Program.{Equation, St, Prog, madeOf, equalRows, firstEqual, sane, interned, solve, run}
 use Rattle.theory.specs.Table.{table, more, outcome, stated, table-holds, more-holds, poolRows, poolLines, pool-holds}
 use Rattle.theory.specs.Basics.{All}
@@ -14,6 +14,7 @@ use Rattle.theory.specs.Ways.{Way, Kinded, Plain, den, Agrees, Sided, Me
 use Rattle.theory.specs.Graph.{Lower, Good}
 use Rattle.theory.specs.Sound.{Fair, success-exact, failed-none}
 use Rattle.theory.specs.Keep.{KeptBy, solve-kept}
+use Rattle.theory.specs.Depth.{Functions, bounded, four-enough}
 use Rattle.theory.specs.Exist.{way, way-agrees, way-kinded}
 use Rattle.theory.specs.Demand.{Tables, track, demand-yes, demand-no}
 use Rattle.theory.specs.Start.{ordered, start, start-track}
@@ -43,6 +44,11 @@ agreeing-way rows kinds lower b good = (way rows kinds lower b good, way-kinded 
 -- whatever the rows: an equation's steps suffice, its bindings have no cycle, and the lists of bindings and marks keep their lengths
 pub equation-ends : (rows : List Shape) (kinds : List Kind) (m : Mem) (e g : ℕ) → Good rows kinds (m .binds) → e < length rows → g < length rows → KeptBy rows kinds m (solve rows kinds m e g)
 equation-ends = solve-kept
+
+-- functions of the table at most 4 deep in one another, of rows without variables and lambdas: the rules that enter at most four functions
+-- against lambdas in one another give the same result
+pub recursion-bounded : (rows : List Shape) (kinds : List Kind) → Functions rows 4 → (n : ℕ) (m : Mem) (x y : ℕ) → bounded rows kinds 4 n m x y ≡ unify rows kinds n m x y
+recursion-bounded = four-enough
 
 -- ── 4. demand 3, for any program of the steps ──
 

@@ -14,5 +14,6 @@ pub mod Demand
 pub mod Start
 pub mod Solve
 pub mod Pool
+pub mod Depth
 pub mod Claims
 pub mod Example

@@ -7,12 +7,13 @@ use mathlib.Core.Option.{none, some}
 use mathlib.Core.Bool.{true, false}
 use Prim.Native.Nat.{ℕ, _<_}
 use lib.ListN.{length}
-use Rattle.theory.specs.Rules.{Shape, Kind, success, kindOrder, refused13, Mem, Pair, row}
+use Rattle.theory.specs.Rules.{Shape, Kind, success, kindOrder, refused13, Mem, Pair, row, unify}
 use Rattle.theory.specs.Program.{Equation, St, Prog, madeOf, equalRows, firstEqual, run, raised, solve, solved}
 use Rattle.theory.specs.Basics.{All}
 use Rattle.theory.specs.Ways.{Way, Kinded, den, Agrees, Sided, Meets, Went, Failed}
 use Rattle.theory.specs.Graph.{Good}
 use Rattle.theory.specs.Keep.{KeptBy, Ended}
+use Rattle.theory.specs.Depth.{Functions, bounded}
 use Rattle.theory.specs.Start.{ordered, start}
 use Rattle.theory.specs.Solve.{solves, Fresh, Posed, Solves}
 use Rattle.theory.specs.Table.{table, outcome, stated}
@@ -82,6 +83,10 @@ end-means-same = follow.follow-same
 -- an equation is never out of fuel and makes no cycle
 pub equation-ends : (rows : List Shape) (kinds : List Kind) (m : Mem) (e g : ℕ) → Good rows kinds (m .binds) → e < length rows → g < length rows → KeptBy rows kinds m (solve rows kinds m e g)
 equation-ends = rules.equation-ends
+
+-- with functions at most 4 deep in one another (document 01's limit), the rules enter no more than four functions against lambdas in one another
+pub recursion-bounded : (rows : List Shape) (kinds : List Kind) → Functions rows 4 → (n : ℕ) (m : Mem) (x y : ℕ) → bounded rows kinds 4 n m x y ≡ unify rows kinds n m x y
+recursion-bounded = rules.recursion-bounded
 
 -- ── 5. demand 3, for any program of the steps ──
 
