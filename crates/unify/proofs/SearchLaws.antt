@@ -21,16 +21,16 @@ use Rattle.type_table.specs.declared.VarId.{VarId}
 use Rattle.type_table.specs.declared.InputRange.{InputRange}
 use Rattle.type_table.specs.declared.Bound.{Bound}
 use Rattle.type_table.specs.declared.Bound.the-variants.{To as To·B, Open}
-use Rattle.type_table.specs.Memory.{pick, cell, inputs-at, headAt, numberAt, outputAt, firstAt, countAt, inputsFrom, bindingAt, Held}
-use Rattle.type_table.specs.View.{type, variable, boundCode, boundIn}
+use Rattle.type_table.specs.Memory.{pick, cell, inputs-at, headAt, numberAt, outputAt, firstAt, countAt, inputsFrom, Held}
+use Rattle.type_table.specs.View.{type, variable, boundIn}
 use Rattle.unify.specs.declared.Found.the-variants.{Free, Ring, Inside, Lost}
 use Rattle.unify.specs.declared.Grown.{Grown}
 use Rattle.unify.specs.declared.Grown.the-variants.{Hit, Tail}
 use Rattle.unify.specs.declared.Lead.{Lead}
 use Rattle.unify.specs.declared.Lead.the-variants.{At, End, Parts, To}
 use Rattle.unify.specs.Search.{Queue, queue, pushF, pushAll, parts, bindsIn, nextIn, leadsIn, Visited, ReachedK, Reached, LedVar, Led, Stands, seekIn, Sought}
-use Rattle.type_table.specs.Tables.{bound-at, length-rows}
-use Rattle.unify.specs.Bridge.{var-row, no-var-row, kids-row}
+use Rattle.type_table.specs.Tables.{length-rows}
+use Rattle.unify.specs.Bridge.{bound-open, bound-some, var-row, no-var-row, kids-row}
 use Rattle.unify.specs.Promise.{rowsIn}
 
 -- ── pushing ──
@@ -120,35 +120,21 @@ module _ (m : List ℕ) (c : Counts) (x : TypeId) (h : ℕ) (p : h ≡ headAt m 
       not-v : u ≢ v .0 → asVar (row (rowsIn m c) (x .0)) ≢ some (v .0)
       not-v d r = d (let g : some u ≡ some (v .0) = sym as-u ∙ r in cc)
 
-      bound-is : (b : Bound) → b ≡ boundIn m c (variable u) → boundCode (bound (bindsIn m c) u) ≡ b
-      unfolding boundIn
-      bound-is b r = ap boundCode (bound-at m (c .vars) u) ∙ sym r
-
-      open-none : (b : Bound) → b ≡ boundIn m c (variable u) → b ≡ Open → bound (bindsIn m c) u ≡ none
-      open-none b r o = by (bound (bindsIn m c) u) (bound-is b r ∙ o)
-        where
-          by : (z : Option ℕ) → boundCode z ≡ Open → z ≡ none
-          by none k = refl
-          by (some y) k = cc
-
-      to-some : (b : Bound) (y : TypeId) → b ≡ boundIn m c (variable u) → b ≡ To·B y → bound (bindsIn m c) u ≡ some (y .0)
-      to-some b y r o = by (bound (bindsIn m c) u) (bound-is b r ∙ o)
-        where
-          by : (z : Option ℕ) → boundCode z ≡ To·B y → z ≡ some (y .0)
-          by none k = cc
-          by (some w) k = let g : type w ≡ y = cc in ap (λ (t : TypeId). some (t .0)) g
-
       pub visit-open : (k : List ℕ) (t : ℕ) (b : Bound) → u ≢ v .0 → b ≡ boundIn m c (variable u) → b ≡ Open → Visited m c v x k t k (Tail t)
       unfolding pushAll
-      visit-open k t b d r o = (not-v d, rw (next-u, open-none b r o))
+      visit-open k t b d r o = (not-v d, rw (next-u, bound-open m c (variable u) b r o))
 
       pub visit-bound : (k w : List ℕ) (t n : ℕ) (b : Bound) (y : TypeId) → u ≢ v .0 → b ≡ boundIn m c (variable u) → b ≡ To·B y → queue w n ≡ pushF (c .types) (queue k t) (y .0) → Visited m c v x k t w (Tail n)
       unfolding pushAll
-      visit-bound k w t n b y d r o g = (not-v d, rw (next-u, to-some b y r o) g)
+      visit-bound k w t n b y d r o g = (not-v d, rw (next-u, bound-some m c (variable u) b r y o) g)
 
     pub visit-parts : h ≢ 12 → (k w : List ℕ) (t n : ℕ) → queue w n ≡ pushAll (c .types) (queue k t) (parts m c x) → Visited m c v x k t w (Tail n)
     visit-parts d k w t n g =
         (λ r. (let y : _≡_ {A = ℕ} 0 1 = (let f : none ≡ some (v .0) = sym (no-var-row m (c .types) (x .0) (rw p at d)) ∙ r in cc) in omega arith), rw (next-parts d) g)
+
+or-right : (a b : Bool) → b ≡ true → (a || b) ≡ true
+or-right true b r = refl
+or-right false b r = r
 
 -- ── steps along the rows ──
 
@@ -178,10 +164,6 @@ module _ (m : List ℕ) (c : Counts) (v : ℕ) where
   any-mono f g [] h e = e
   any-mono f g (y ∷ ys) h e = by (λ q. any-mono f g ys h q) (f y) refl e
     where
-      or-right : (a b : Bool) → b ≡ true → (a || b) ≡ true
-      or-right true b r = refl
-      or-right false b r = r
-
       by : (any f ys ≡ true → any g ys ≡ true) → (b : Bool) → f y ≡ b → (b || any f ys) ≡ true → (g y || any g ys) ≡ true
       by ih true p q = rw (h y p)
       by ih false p q = or-right (g y) (any g ys) (ih q)
@@ -220,20 +202,10 @@ module _ (m : List ℕ) (c : Counts) (v : ℕ) where
 
 module _ (m : List ℕ) (c : Counts) (v : VarId) where
   pub led-var-open : (u : VarId) (b : Bound) → u .0 ≢ v .0 → b ≡ boundIn m c u → b ≡ Open → LedVar m c v u End
-  unfolding boundIn
-  led-var-open u b d r o = (d, bound-at m (c .vars) (u .0) ∙ by (bindingAt m (c .vars) (u .0)) (sym r ∙ o))
-    where
-      by : (z : Option ℕ) → boundCode z ≡ Open → z ≡ none
-      by none k = refl
-      by (some y) k = cc
+  led-var-open u b d r o = (d, bound-open m c u b r o)
 
   pub led-var-to : (u : VarId) (b : Bound) (y : TypeId) → u .0 ≢ v .0 → b ≡ boundIn m c u → b ≡ To·B y → LedVar m c v u (To y)
-  unfolding boundIn
-  led-var-to u b y d r o = (d, bound-at m (c .vars) (u .0) ∙ by (bindingAt m (c .vars) (u .0)) (sym r ∙ o))
-    where
-      by : (z : Option ℕ) → boundCode z ≡ To·B y → z ≡ some (y .0)
-      by none k = cc
-      by (some w) k = let g : type w ≡ y = cc in ap (λ (t : TypeId). some (t .0)) g
+  led-var-to u b y d r o = (d, bound-some m c u b r y o)
 
   module _ (x : TypeId) (h : ℕ) (p : h ≡ headAt m (c .types) (x .0)) where
     not-same : h ≢ 12 → isSame (v .0) (asVar (row (rowsIn m c) (x .0))) ≡ false
@@ -476,17 +448,9 @@ module _ (m : List ℕ) (c : Counts) (held : Held m c) (v : ℕ) where
     λ n h. (let i : n + suc k ≡ suc n + k = omega arith in rw i (d (suc n) (f n (rw h)))),
     deep-next z k x d ys (λ n h. f n (or-right (leadsIn m c v n y) (any (leadsIn m c v n) ys) h)),
   )
-    where
-      or-right : (a b : Bool) → b ≡ true → (a || b) ≡ true
-      or-right true b r = refl
-      or-right false b r = r
 
   any-step : (n x : ℕ) → any (leadsIn m c v n) (nextIn m c x) ≡ true → leadsIn m c v (suc n) x ≡ true
   any-step n x h = step-eq m c v n x ∙ or-right (isSame v (asVar (row (rowsIn m c) x))) (any (leadsIn m c v n) (nextIn m c x)) h
-    where
-      or-right : (a b : Bool) → b ≡ true → (a || b) ≡ true
-      or-right true b r = refl
-      or-right false b r = r
 
   pub work-more : (z : ℕ) (q q′ : List ℕ) (tail k head : ℕ) → Work z q tail head → head < tail → asVar (row (rowsIn m c) (entry q head)) ≢ some v → queue q′ k ≡ pushAll (c .types) (queue q tail) (nextIn m c (entry q head)) → Work z q′ k (head + 1)
   work-more z q q′ tail k head w h d e =

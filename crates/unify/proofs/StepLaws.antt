@@ -2,13 +2,11 @@
 use mathlib.Core.Path.{_≡_, refl, sym, ap, _∙_}
 use mathlib.Core.Logic.{_≢_, _⊎_, inl, inr}
 use mathlib.Core.List.{List, [], _∷_}
-use mathlib.Core.Option.{Option, none, some}
+use mathlib.Core.Option.{none, some}
 use mathlib.Core.Bool.{Bool, true, false, _&&_, _||_, cond}
 use Prim.Native.Nat.{ℕ}
 use native.Mathlib.Omega.{arith}
-use native.Mathlib.Decide.{ℕ-discrete}
 use lib.Dec.{eqb}
-use borrow.Author.Tests.{ne-eqb}
 use Rattle.theory.specs.Rules.{same, compare, left, right, down, swap, differ, Out, success, mismatch, kindOrder, refused12, refused13, dry, Mem, Res, row, kids, asVar, kind, bound, fits, kindFits, marked, passTo, pass, choose, compared, split, atVar, act, move, perform, each, onward, andThen, heed, chase, settle}
 use Rattle.type_table.specs.declared.Counts.{Counts}
 use Rattle.type_table.specs.declared.TypeId.{TypeId}
@@ -16,9 +14,9 @@ use Rattle.type_table.specs.declared.VarId.{VarId}
 use Rattle.type_table.specs.declared.Kind.{Kind}
 use Rattle.type_table.specs.declared.Bound.{Bound}
 use Rattle.type_table.specs.declared.Bound.the-variants.{To as To·B, Open}
-use Rattle.type_table.specs.Memory.{headAt, numberAt, bindingAt, markAt, bindsOf, marksOf, memOf, Held}
+use Rattle.type_table.specs.Memory.{headAt, numberAt, markAt, bindsOf, marksOf, memOf, Held}
 use Rattle.type_table.specs.Made.{marking, binding}
-use Rattle.type_table.specs.View.{type, variable, kindIn, boundCode, boundIn}
+use Rattle.type_table.specs.View.{type, variable, kindIn, boundIn}
 use Rattle.unify.specs.declared.Decision.{Decision}
 use Rattle.unify.specs.declared.Decision.the-variants.{Same, Compare, Left, Right, Down, Swap, Differ}
 use Rattle.unify.specs.declared.Reply.{Reply}
@@ -30,8 +28,9 @@ use Rattle.unify.specs.declared.Found.the-variants.{Free, Ring, Inside, 
 use Rattle.unify.specs.Leaf.{kindK, stepK, Classed, Caused, Signed, SameVar, Compared}
 use Rattle.unify.specs.Search.{seekIn, Sought, parts}
 use Rattle.unify.specs.Step.{Rec, resume, Parted, Enterable, Settled, Chased, Heeded, Met, Varied, downTo, Stepped}
-use Rattle.type_table.specs.Tables.{bound-at, mark-at}
-use Rattle.unify.specs.Bridge.{head-row, var-row, no-var-row, kids-row}
+use Rattle.type_table.specs.Tables.{mark-at}
+use Rattle.theory.specs.Basics.{and-both, eqb-true}
+use Rattle.unify.specs.Bridge.{bound-open, bound-some, head-row, var-row, no-var-row, kids-row}
 use Rattle.unify.specs.Frames.{frame-same, frame-trans, held-on, rows-same, kinds-same, marking-frame, marking-mem, binding-frame, binding-mem}
 use Rattle.unify.proofs.Laws.{kind-in}
 use Rattle.unify.specs.Promise.{Frame, kindsIn, memIn, rowIn, rowsIn}
@@ -54,29 +53,13 @@ module _ (m : List ℕ) (c : Counts) (v : VarId) (z : TypeId) (f : Found) (a : S
 -- ── its binding ──
 
 module _ (m : List ℕ) (c : Counts) (v : VarId) (b : Bound) (p : b ≡ boundIn m c v) where
-  open-is : b ≡ Open → bound (bindsOf m (c .vars)) (v .0) ≡ none
-  unfolding boundIn
-  open-is e = bound-at m (c .vars) (v .0) ∙ by (bindingAt m (c .vars) (v .0)) (sym p ∙ e)
-    where
-      by : (o : Option ℕ) → boundCode o ≡ Open → o ≡ none
-      by none k = refl
-      by (some y) k = cc
-
-  bound-is : (x : TypeId) → b ≡ To·B x → bound (bindsOf m (c .vars)) (v .0) ≡ some (x .0)
-  unfolding boundIn
-  bound-is x e = bound-at m (c .vars) (v .0) ∙ by (bindingAt m (c .vars) (v .0)) (sym p ∙ e)
-    where
-      by : (o : Option ℕ) → boundCode o ≡ To·B x → o ≡ some (x .0)
-      by none k = cc
-      by (some y) k = let g : type y ≡ x = cc in ap (λ (t : TypeId). some (t .0)) g
-
   pub chase-open : (z : TypeId) (w : List ℕ) (r : Reply) → b ≡ Open → Settled m c v z w r → Chased m c v z w (Done r)
   unfolding memOf seekIn
-  chase-open z w r e s held = record { frame = (s held) .0; left-over = λ rec. rw (open-is e) ((s held) .1); enterable = tt }
+  chase-open z w r e s held = record { frame = (s held) .0; left-over = λ rec. rw (bound-open m c v b p e) ((s held) .1); enterable = tt }
 
   pub chase-bound : (z x : TypeId) → b ≡ To·B x → Chased m c v z m (On x z)
   unfolding memOf
-  chase-bound z x e held = record { frame = frame-same m c; left-over = λ rec. rw (bound-is x e); enterable = tt }
+  chase-bound z x e held = record { frame = frame-same m c; left-over = λ rec. rw (bound-some m c v b p x e); enterable = tt }
 
 -- ── its mark ──
 
@@ -194,24 +177,13 @@ last-success r = by (r .0) (r .1)
     by refused13 m = refl
     by dry m = refl
 
-eq-true : (a b : ℕ) → eqb a b ≡ true → a ≡ b
-eq-true a b e = by (ℕ-discrete a b)
-  where
-    by : Dec (a ≡ b) → a ≡ b
-    by (yes p) = p
-    by (no n) = let f : _≡_ {A = Bool} true false = sym e ∙ ne-eqb a b n in absurd (let y : _≡_ {A = ℕ} 0 1 = cc in omega arith)
-
-and-true : (a b : Bool) → (a && b) ≡ true → (a ≡ true) × (b ≡ true)
-and-true true b e = (refl, e)
-and-true false b e = (cc, cc)
-
 -- where the choice is parts against parts
 choose-inward : (e g : ℕ) → choose e g ≡ down → ((eqb e 8 && eqb g 8) ≡ true) ⊎ ((e ≡ 6) × (g ≡ 13))
 unfolding choose
 choose-inward e g h = by (compared e && eqb e g) (eqb g 11) (eqb e 8 && eqb g 8) (eqb e 12) (eqb g 12) (eqb e 6 && eqb g 13) (eqb e 13 && eqb g 6) (eqb e 10 || eqb g 10) refl refl h
   where
     two : (eqb e 6 && eqb g 13) ≡ true → (e ≡ 6) × (g ≡ 13)
-    two q = let r = and-true (eqb e 6) (eqb g 13) q in (eq-true e 6 (r .0), eq-true g 13 (r .1))
+    two q = let r = and-both (eqb e 6) (eqb g 13) q in (eqb-true e 6 (r .0), eqb-true g 13 (r .1))
 
     by : (a b d l r p s t : Bool) → (eqb e 8 && eqb g 8) ≡ d → (eqb e 6 && eqb g 13) ≡ p → cond a compare (cond b same (cond d down (cond l left (cond r right (cond p down (cond s swap (cond t same differ))))))) ≡ down → ((eqb e 8 && eqb g 8) ≡ true) ⊎ ((e ≡ 6) × (g ≡ 13))
     by true b d l r p s t i j k = absurd (let y : _≡_ {A = ℕ} 0 1 = cc in omega arith)
@@ -229,7 +201,7 @@ unfolding choose
 choose-swapped e g h = by (compared e && eqb e g) (eqb g 11) (eqb e 8 && eqb g 8) (eqb e 12) (eqb g 12) (eqb e 6 && eqb g 13) (eqb e 13 && eqb g 6) (eqb e 10 || eqb g 10) refl h
   where
     two : (eqb e 13 && eqb g 6) ≡ true → (e ≡ 13) × (g ≡ 6)
-    two q = let r = and-true (eqb e 13) (eqb g 6) q in (eq-true e 13 (r .0), eq-true g 6 (r .1))
+    two q = let r = and-both (eqb e 13) (eqb g 6) q in (eqb-true e 13 (r .0), eqb-true g 6 (r .1))
 
     by : (a b d l r p s t : Bool) → (eqb e 13 && eqb g 6) ≡ s → cond a compare (cond b same (cond d down (cond l left (cond r right (cond p down (cond s swap (cond t same differ))))))) ≡ swap → (e ≡ 13) × (g ≡ 6)
     by true b d l r p s t j k = absurd (let y : _≡_ {A = ℕ} 0 1 = cc in omega arith)
@@ -290,9 +262,9 @@ module _ (m : List ℕ) (c : Counts) (x y : TypeId) (h k : ℕ) (ph : h ≡ head
   down-arrays : d ≡ Down → (eqb h 8 && eqb k 8) ≡ true → Stepped m c x y m (On (type (numberAt m (c .types) (x .0))) (type (numberAt m (c .types) (y .0))))
   unfolding act split
   down-arrays e b =
-      let g = and-true (eqb h 8) (eqb k 8) b in
-      let kx = array-kids m c x (sym ph ∙ eq-true h 8 (g .0)) in
-      let ky = array-kids m c y (sym pk ∙ eq-true k 8 (g .1)) in
+      let g = and-both (eqb h 8) (eqb k 8) b in
+      let kx = array-kids m c x (sym ph ∙ eqb-true h 8 (g .0)) in
+      let ky = array-kids m c y (sym pk ∙ eqb-true k 8 (g .1)) in
       stay (On (type (numberAt m (c .types) (x .0))) (type (numberAt m (c .types) (y .0)))) tt (λ rec. rw (e, kx, ky) (last-success (rec (memIn m c) (numberAt m (c .types) (x .0)) (numberAt m (c .types) (y .0)))))
 
   down-parts : d ≡ Down → (eqb h 8 && eqb k 8) ≡ false → Stepped m c x y m (Into x y)

@@ -2,7 +2,7 @@
 use mathlib.Core.Path.{_≡_, refl, sym, ap, ap₂, _∙_}
 use mathlib.Core.Logic.{_≢_}
 use mathlib.Core.List.{List, [], _∷_}
-use mathlib.Core.Option.{none}
+use mathlib.Core.Option.{none, some}
 use mathlib.Core.Bool.{Bool, true, false, _||_}
 use Prim.Native.Nat.{ℕ, suc, zero, _+_, _-_, _*_, _≤_, _<_}
 use native.Mathlib.Omega.{arith}
@@ -17,6 +17,13 @@ use Rattle.type_table.specs.Memory.{pick, headOf, headAt, numberAt, outputAt, f
 use Rattle.type_table.specs.Tables.{row-at}
 use Rattle.unify.specs.Leaf.{cap, code}
 use Rattle.unify.specs.Search.{parts}
+use Rattle.theory.specs.Rules.{bound}
+use Rattle.type_table.specs.declared.VarId.{VarId}
+use Rattle.type_table.specs.declared.Bound.{Bound}
+use Rattle.type_table.specs.declared.Bound.the-variants.{To, Open}
+use Rattle.type_table.specs.View.{boundIn}
+use Rattle.type_table.specs.Memory.{bindsOf}
+use Rattle.type_table.specs.Reads.{boundMeant, bound-read}
 
 module _ (m : List ℕ) (n : ℕ) where
   -- a head is one of fifteen
@@ -345,3 +352,14 @@ unfolding parts
 kids-row m c x =
     ap kids (row-by m (c .types) (x .0))
     ∙ kids-by (headAt m (c .types) (x .0)) (numberAt m (c .types) (x .0)) (outputAt m (c .types) (x .0)) (inputsFrom m (firstAt m (c .types) (x .0)) (countAt m (c .types) (x .0))) (head-low m (c .types) (x .0))
+
+-- ── the bindings of a memory ──
+
+module _ (m : List ℕ) (c : Counts) (v : VarId) (b : Bound) (p : b ≡ boundIn m c v) where
+  -- open as the code reads it: no binding in the table
+  pub bound-open : b ≡ Open → bound (bindsOf m (c .vars)) (v .0) ≡ none
+  bound-open e = sym (bound-read m c v) ∙ ap boundMeant (sym p ∙ e)
+
+  -- bound as the code reads it: that binding in the table
+  pub bound-some : (x : TypeId) → b ≡ To x → bound (bindsOf m (c .vars)) (v .0) ≡ some (x .0)
+  bound-some x e = sym (bound-read m c v) ∙ ap boundMeant (sym p ∙ e)

@@ -1,7 +1,7 @@
 -- The end of a row's bindings: every way that agrees with the bindings gives a row and its end one type.
-use mathlib.Core.Path.{_≡_, refl, sym, ap, _∙_}
+use mathlib.Core.Path.{_≡_, refl, sym, _∙_}
 use mathlib.Core.List.{List}
-use mathlib.Core.Option.{Option, none, some}
+use mathlib.Core.Option.{some}
 use Prim.Native.Nat.{ℕ, suc, zero, _+_, _<_}
 use native.Mathlib.Omega.{arith}
 use native.Mathlib.Decide.{ℕ-discrete}
@@ -13,12 +13,12 @@ use Rattle.type_table.specs.declared.Counts.{Counts}
 use Rattle.type_table.specs.declared.TypeId.{TypeId}
 use Rattle.type_table.specs.declared.Bound.{Bound}
 use Rattle.type_table.specs.declared.Bound.the-variants.{To, Open}
-use Rattle.type_table.specs.Memory.{headAt, numberAt, bindingAt}
-use Rattle.type_table.specs.View.{type, variable, boundCode, boundIn, onwardIn, endBy, endFrom, endIn}
-use Rattle.type_table.specs.Tables.{bound-at, length-rows}
+use Rattle.type_table.specs.Memory.{headAt, numberAt}
+use Rattle.type_table.specs.View.{type, variable, onwardIn, endBy, endFrom, endIn}
+use Rattle.type_table.specs.Tables.{length-rows}
 use Rattle.type_table.specs.Sound.{Sound}
 use Rattle.unify.specs.Search.{bindsIn}
-use Rattle.unify.specs.Bridge.{var-row}
+use Rattle.unify.specs.Bridge.{var-row, bound-some}
 use Rattle.unify.specs.Promise.{rowsIn}
 
 -- a row that is bound is that of a variable, and its binding stands in the tables
@@ -28,19 +28,15 @@ pub record Onward (m : List ℕ) (c : Counts) (x y : ℕ) : Type 0 where
   pub bound-to : bound (bindsIn m c) var-of ≡ some y
 
 pub onward-bound : (m : List ℕ) (c : Counts) (x : ℕ) (y : TypeId) → onwardIn m c (type x) ≡ To y → Onward m c x (y .0)
-unfolding onwardIn boundIn
+unfolding onwardIn
 onward-bound m c x y e = by (ℕ-discrete (headAt m (c .types) x) 12)
   where
-    code : (o : Option ℕ) → boundCode o ≡ To y → o ≡ some (y .0)
-    code none k = cc
-    code (some z) k = let g : type z ≡ y = cc in ap (λ (t : TypeId). some (t .0)) g
-
     by : Dec (headAt m (c .types) x ≡ 12) → Onward m c x (y .0)
     by (yes h) =
         record {
           var-of = numberAt m (c .types) x;
           is-var = var-row m (c .types) x h;
-          bound-to = bound-at m (c .vars) (numberAt m (c .types) x) ∙ code (bindingAt m (c .vars) (numberAt m (c .types) x)) (rw (eq-eqb (headAt m (c .types) x) 12 h) at e);
+          bound-to = bound-some m c (variable (numberAt m (c .types) x)) (To y) (sym (rw (eq-eqb (headAt m (c .types) x) 12 h) at e)) y refl;
         }
     by (no n) = let g : Open ≡ To y = rw (ne-eqb (headAt m (c .types) x) 12 n) at e in absurd (let z : _≡_ {A = ℕ} 0 1 = cc in omega arith)
 

@@ -1,21 +1,20 @@
 -- What a mark and a binding change in the memory, and what stays.
-use mathlib.Core.Path.{_≡_, refl, sym, ap, _∙_}
+use mathlib.Core.Path.{_≡_, refl, sym, _∙_}
 use mathlib.Core.Logic.{_≢_}
 use mathlib.Core.List.{List}
 use mathlib.Core.Option.{none, some}
 use mathlib.Core.Bool.{Bool, true, false}
-use Prim.Native.Nat.{ℕ, suc, zero, _+_, _*_, _≤_, _<_}
+use Prim.Native.Nat.{ℕ, _+_, _*_, _≤_, _<_}
 use native.Mathlib.Omega.{arith}
 use native.Mathlib.Decide.{decLt, ℕ-discrete}
 use lib.ListN.{set, length-set}
 use lib.Seq.{getD-set-same, getD-set-other}
-use lib.Dec.{leb}
 use borrow.Author.Tests.{lt-ltb, le-ltb, lt-leb}
 use Rattle.theory.specs.Rules.{bind}
 use Rattle.type_table.specs.declared.Counts.{Counts}
-use Rattle.type_table.specs.Memory.{pick, cell, rows-at, inputs-at, rowCell, headAt, numberAt, outputAt, firstAt, countAt, inputsFrom, shapeAt, rowsOf, kindAt, kindsOf, bindingAt, bindsOf, markAt, marksOf, memOf, Held}
+use Rattle.type_table.specs.Memory.{cell, inputsFrom, rowsOf, kindsOf, bindingAt, bindsOf, markAt, marksOf, memOf, Held}
 use Rattle.type_table.specs.Made.{marking, binding}
-use Rattle.type_table.specs.Tables.{tab-ext}
+use Rattle.type_table.specs.Frames.{inputs-low, rows-low, kinds-kept}
 use Rattle.type_table.specs.Keeps.{mark-binds, mark-marks, bind-mem}
 use Rattle.unify.specs.Promise.{Frame}
 
@@ -38,44 +37,13 @@ module _ (m : List ℕ) (c : Counts) (w : List ℕ) (f : Frame m c w) where
     below v j h = f .same (v * 5 + j) (λ u k a b d e. omega arith)
 
     pub inputs-same : (x k : ℕ) → inputsFrom w x k ≡ inputsFrom m x k
-    unfolding inputsFrom
-    inputs-same x zero = refl
-    inputs-same x (suc k) = rw (above (inputs-at + x) (omega arith), inputs-same (suc x) k)
-
-    row-cell : (n x k : ℕ) → rowCell w n x k ≡ rowCell m n x k
-    row-cell n x k = ap (pick (leb n x) 0) (above (rows-at + x * 5 + k) (omega arith))
-
-    pub head-same : (n x : ℕ) → headAt w n x ≡ headAt m n x
-    unfolding headAt
-    head-same n x = rw (above (rows-at + x * 5) (omega arith))
-
-    pub number-same : (n x : ℕ) → numberAt w n x ≡ numberAt m n x
-    unfolding numberAt
-    number-same n x = row-cell n x 1
-
-    pub output-same : (n x : ℕ) → outputAt w n x ≡ outputAt m n x
-    unfolding outputAt
-    output-same n x = row-cell n x 2
-
-    pub first-same : (n x : ℕ) → firstAt w n x ≡ firstAt m n x
-    unfolding firstAt
-    first-same n x = row-cell n x 3
-
-    pub count-same : (n x : ℕ) → countAt w n x ≡ countAt m n x
-    unfolding countAt
-    count-same n x = row-cell n x 4
-
-    shape-same : (n x : ℕ) → shapeAt w n x ≡ shapeAt m n x
-    unfolding shapeAt
-    shape-same n x = rw (head-same n x, number-same n x, output-same n x, first-same n x, count-same n x, inputs-same (firstAt m n x) (countAt m n x))
+    inputs-same = inputs-low m w above
 
     pub rows-same : (n : ℕ) → rowsOf w n ≡ rowsOf m n
-    unfolding rowsOf
-    rows-same n = tab-ext (shapeAt m n) (shapeAt w n) n (λ i h. shape-same n i)
+    rows-same n = rows-low m w n above
 
     pub kinds-same : (n : ℕ) → kindsOf w n ≡ kindsOf m n
-    unfolding kindsOf kindAt
-    kinds-same n = tab-ext (kindAt m n) (kindAt w n) n (λ v h. rw (below v 0 (omega arith)))
+    kinds-same n = kinds-kept m w n (λ v h. below v 0 (omega arith))
 
 -- a variable whose binding cells are the same has the same binding
 same-binding : (m w : List ℕ) (n v : ℕ) → (cell w (v * 5 + 2) ≡ cell m (v * 5 + 2)) × (cell w (v * 5 + 3) ≡ cell m (v * 5 + 3)) → bindingAt w n v ≡ bindingAt m n v
