@@ -1,0 +1,194 @@
+-- Laws of the definitions in specs/Form.antt: each way of writing a field, a cell in the table, one turn of the loop over a line's fields, and a line.
+-- Assumes nothing.
+use Prim.Native.Nat.{ℕ, _+_, _*_, _-_, _<_, _≤_, zero-le}
+use mathlib.Core.Path.{_≡_, refl, ap, ap₂, sym, _∙_}
+use mathlib.Core.Bool.{Bool, true, false, cond}
+use mathlib.Core.List.{List, [], _∷_}
+use native.Mathlib.Nat.{zero-add, add-zero, sub-zero}
+use native.Mathlib.Numerals.{add-one, add-two}
+use native.Mathlib.Omega.{arith}
+use lib.Dec.{eqb, ltb}
+use lib.ListN.{length, getD, take, drop, set, drop-of-length-le, length-drop, List·getD-eq-default}
+use lib.Seq.{take-all}
+use borrow.Author.Tests.{lt-ltb, le-ltb, lt-leb, le-leb, ne-eqb}
+use Rattle.lex.specs.Text.{numberOf, before, fieldsFrom, pack}
+use Rattle.lex.proofs.Laws.{first-part, no-part}
+use Rattle.lex.specs.declared.Num.{Num}
+use Rattle.lex.specs.declared.Num.the-variants as num
+use Rattle.forms.specs.declared.Form.{Form}
+use Rattle.forms.specs.declared.Got.{Got}
+use Rattle.forms.specs.declared.Got.the-variants as got
+use Rattle.forms.specs.declared.Fault.the-variants as fault
+use Rattle.forms.specs.declared.Line.{Line}
+use Rattle.forms.specs.declared.Line.the-variants as line
+use Rattle.forms.specs.declared.Cell.{Cell}
+use Rattle.forms.specs.declared.Read.{Read}
+use Rattle.forms.specs.declared.Read.the-variants.{Is, Bad}
+use Rattle.forms.specs.Form.{LineForm, forms, no-form, formAt, readAs, readOf, valued, named, letterOf, optionalOf, binaryOf, unaryOf, tagOf, taggedOf, resolutionOf, behindOf, pairOf, kindAt, Cells, refused, cells, prepend, cellsFrom, store, storeFrom, Filled, unfilled, filled, fill, formOf, counted, withCells, parseLine, startOf, countOf, Laid, faulty, lay, shown, outcome, countIn, widthOf}
+use Rattle.forms.specs.Words.{indexNumbered, form-by-number}
+
+-- a field read by its class
+pub of-class : (r : Read) (c c′ : ℕ) (s : List ℕ) → c ≡ c′ → r ≡ readAs c′ s → r ≡ readAs c s
+of-class r c c′ s p q = rw p q
+
+-- a field that is `-` or a number
+pub optional-of : (r : Read) (c x : ℕ) (s : List ℕ) → c ≡ 2 → r ≡ optionalOf x s → x ≡ letterOf s → r ≡ readAs c s
+unfolding readAs
+optional-of r c x s p q e = of-class r c 2 s p (rw e at q)
+
+-- a field that is the operator of `bin`
+pub binary-of : (r : Read) (c x : ℕ) (s : List ℕ) → c ≡ 4 → r ≡ binaryOf x → x ≡ letterOf s → r ≡ readAs c s
+unfolding readAs
+binary-of r c x s p q e = of-class r c 4 s p (rw e at q)
+
+-- a field that is the operator of `un`
+pub unary-of : (r : Read) (c x : ℕ) (s : List ℕ) → c ≡ 5 → r ≡ unaryOf x → x ≡ letterOf s → r ≡ readAs c s
+unfolding readAs
+unary-of r c x s p q e = of-class r c 5 s p (rw e at q)
+
+-- a part to the end of a list
+rest : (s : List ℕ) (a : ℕ) → take (length s - a) (drop a s) ≡ drop a s
+rest s a = take-all (length s - a) (drop a s) (rw (length-drop a s) (omega arith))
+
+-- a resolution with no bytes
+pub no-tag : (s : List ℕ) → length s ≡ 0 → resolutionOf s ≡ Bad
+unfolding tagOf taggedOf
+no-tag [] h = refl
+no-tag (x ∷ xs) h = absurd (omega arith)
+
+-- a resolution by its first letter
+pub tag-first : (r : Read) (b : ℕ) (s : List ℕ) → r ≡ taggedOf b s → b ≡ tagOf (getD s 0 0) → r ≡ resolutionOf s
+tag-first r b s p e = rw e at p
+
+-- a resolution with a number behind its letter
+pub tag-number : (r : Read) (b : ℕ) (s : List ℕ) → r ≡ valued b (numberOf (take (length s - 1) (drop 1 s))) → (b ≡ 0 → ⊥) → b ≤ 4 → r ≡ taggedOf b s
+unfolding taggedOf
+tag-number r b s p n l = p ∙ rw (rest s 1, ne-eqb b 0 n, le-leb b 4 l)
+
+-- a pair whose name ends at e
+module _ (b : Bool) (s : List ℕ) (e : ℕ) (h : e ≡ 0 + before 58 s) where
+  -- the end of the name
+  at-e : before 58 s ≡ e
+  at-e = sym (h ∙ zero-add (before 58 s))
+
+  -- no name and colon
+  pub no-colon : length s ≤ e → pairOf b s ≡ Bad
+  unfolding pairOf tagOf taggedOf numberOf
+  no-colon l = rw (at-e, drop-of-length-le s {i = e + 1} (omega arith)) (go b (numberOf (take e s)))
+    where
+      go : (b : Bool) (n : Num) → named n (behindOf b []) ≡ Bad
+      go true (num.Is a) = refl
+      go true num.Bad = refl
+      go false (num.Is a) = refl
+      go false num.Bad = refl
+
+  module _ (n : Num) (p : n ≡ numberOf (take (e - 0) s)) where
+    -- what stands before the colon is no number
+    pub no-name : n ≡ num.Bad → pairOf b s ≡ Bad
+    unfolding pairOf
+    no-name m = rw (at-e, ← sub-zero e, ← p, m)
+
+    -- a name and what stands behind the colon
+    pub at-colon : (a : ℕ) (q r : Read) → n ≡ num.Is a → r ≡ named (num.Is a) q → q ≡ behindOf b (take (length s - (e + 1)) (drop (e + 1) s)) → r ≡ pairOf b s
+    unfolding pairOf
+    at-colon a q r m o d = o ∙ rw (d, rest s (e + 1), ← m, p, sub-zero e, at-e)
+
+-- the test of two numbers that differ
+pub other : (a b : ℕ) → (b ≡ a → ⊥) → eqb a b ≡ false
+other a b n = ne-eqb a b (λ e. n (sym e))
+
+-- a cell that is in the table
+pub stored : (t : List ℕ) (j : ℕ) (c : Cell) → j * 3 + 3 ≤ length t → set (set (set t (j * 3) (c .name)) (j * 3 + 1) (c .tag)) (j * 3 + 2) (c .value) ≡ store t j c
+unfolding store
+stored t j c h = simp (le-leb (j * 3 + 3) (length t) h, add-one, add-two)
+
+-- a cell that is not in the table
+pub not-stored : (t : List ℕ) (j : ℕ) (c : Cell) → length t < j * 3 + 3 → t ≡ store t j c
+unfolding store
+not-stored t j c h = simp (lt-leb (j * 3 + 3) (length t) h)
+
+-- one turn of the loop over the fields, where the fields from p on are still to be read and w is the whole answer
+module _ (w : Filled) (v : List ℕ) (f : Form) (i p at : ℕ) (t : List ℕ) (inv : w ≡ fill i t (at + i) (cellsFrom f i (fieldsFrom p v))) where
+  module _ (e k : ℕ) (r : Read) (h : p ≤ length v) (q : e ≡ p + before 44 (drop p v)) (kq : k ≡ kindAt f i) (rq : r ≡ readOf k (take (e - p) (drop p v))) where
+    -- a field that is not of its kind
+    pub turn-bad : r ≡ Bad → w ≡ unfilled
+    unfolding fill cellsFrom
+    turn-bad b = inv ∙ rw (first-part 44 v p e h q, ← kq, ← rq, b)
+
+    -- a field of its kind, stored
+    pub turn : (c : Cell) (u : List ℕ) → r ≡ Is c → u ≡ store t (at + i) c → w ≡ fill (i + 1) u (at + (i + 1)) (cellsFrom f (i + 1) (fieldsFrom (e + 1) v))
+    unfolding fill cellsFrom storeFrom
+    turn c u b s = inv ∙ rw (first-part 44 v p e h q, ← kq, ← rq, b, s) (go (cellsFrom f (i + 1) (fieldsFrom (e + 1) v)))
+      where
+        go : (l : Cells) → fill i t (at + i) (prepend (Is c) l) ≡ fill (i + 1) (store t (at + i) c) (at + (i + 1)) l
+        go refused = refl
+        go (cells l) = ap₂ (λ n j. filled n (storeFrom (store t (at + i) c) j l)) (omega arith) (omega arith)
+
+  -- no field is left
+  pub turned : length v < p → w ≡ filled i t
+  unfolding fill cellsFrom storeFrom
+  turned h = inv ∙ rw (no-part 44 v p h, add-zero i)
+
+-- what was read of a line, by the cells that were stored
+unfoldable judge : ℕ → Form → Filled → Laid
+judge i f unfilled = faulty fault.Form
+judge i f (filled n t) = shown (countOf i f n) t
+
+-- that is the line laid in the table
+judged : (i : ℕ) (f : Form) (t : List ℕ) (at : ℕ) (l : Cells) → judge i f (fill 0 t at l) ≡ lay (counted i f l) t at
+unfolding judge fill countOf
+judged i f t at refused = refl
+judged i f t at (cells l) = rw (zero-add (length l)) (go (ltb (length l) (f .4)) (ltb (f .5) (length l)))
+  where
+    go : (a b : Bool) → shown (cond a (line.Fault fault.Form) (cond b (line.Fault fault.Limit) (line.Row i (length l)))) (storeFrom t at l)
+        ≡ lay (withCells (cond a (line.Fault fault.Form) (cond b (line.Fault fault.Limit) (line.Row i (length l)))) l) t at
+    go true b = refl
+    go false true = refl
+    go false false = refl
+
+-- a line
+module _ (k e w i at : ℕ) (v t : List ℕ) (eq : e ≡ 0 + before 44 v) (wq : w ≡ pack (take (e - 0) v)) (iq : i ≡ indexNumbered k w forms) where
+  -- the end of the word
+  at-comma : before 44 v ≡ e
+  at-comma = sym (eq ∙ zero-add (before 44 v))
+
+  -- the form that was found is the line's
+  the-form : formOf k v ≡ i
+  unfolding formOf
+  the-form = rw (at-comma, iq, wq, sub-zero e) (sym (form-by-number k (take e v)))
+
+  -- no form of its key and word
+  pub no-line : 30 ≤ i → lay (parseLine k v) t at ≡ faulty fault.Form
+  unfolding parseLine
+  no-line h = rw (the-form, le-ltb i 30 h)
+
+  module _ (h : i < 30) (f : Form) (fq : f ≡ formAt i) (b : ℕ) (bq : b ≡ startOf k (length v) e) (g : Got) (u : List ℕ) (gq : outcome g u ≡ fill 0 t at (cellsFrom f 0 (fieldsFrom b v))) where
+    -- the line by the fields that were read
+    valued-line : lay (parseLine k v) t at ≡ judge i f (outcome g u)
+    unfolding parseLine
+    valued-line = rw (the-form, lt-ltb i 30 h, ← fq, at-comma, ← bq, gq) (sym (judged i f t at (cellsFrom f 0 (fieldsFrom b v))))
+
+    -- a field that is not of its kind
+    pub bad-line : g ≡ got.Bad → lay (parseLine k v) t at ≡ faulty fault.Form
+    unfolding judge
+    bad-line q = valued-line ∙ ap (λ (x : Got). judge i f (outcome x u)) q
+
+    -- n fields of their kinds
+    pub good-line : (n : ℕ) (r : Line) → g ≡ got.Count n → r ≡ countOf i f n → lay (parseLine k v) t at ≡ shown r u
+    unfolding judge
+    good-line n r q p = valued-line ∙ ap (λ (x : Got). judge i f (outcome x u)) q ∙ ap (λ (x : Line). shown x u) (sym p)
+
+-- a line has no more fields than were read
+pub narrow : (i n : ℕ) (f : Form) (g : Got) (r : Line) (m : ℕ) → r ≡ countOf i f n → g ≡ got.Count n → countIn g ≤ m → widthOf r ≤ m
+unfolding countOf
+narrow i n f g r m p q h = rw p (go (ltb n (f .4)) (ltb (f .5) n) (rw q at h))
+  where
+    go : (a b : Bool) → n ≤ m → widthOf (cond a (line.Fault fault.Form) (cond b (line.Fault fault.Limit) (line.Row i n))) ≤ m
+    go true b l = zero-le
+    go false true l = zero-le
+    go false false l = l
+
+-- a number that is no form's
+pub past-forms : (i : ℕ) → 30 ≤ i → no-form .fields ≡ formAt i
+unfolding formAt forms
+past-forms i h = ap (λ (f : LineForm). f .fields) (sym (List·getD-eq-default forms no-form {n = i} h))

@@ -1,0 +1,495 @@
+// Reads a line's value by a table of forms: FORMS has the kinds of each form's fields, and one loop reads every form.
+use lex::Num;
+ghost use mathlib.Core.Path.{_≡_};
+ghost use Prim.Native.Nat.{_+_, _≤_, _<_};
+ghost use lib.ListN.{length, drop};
+ghost use Rattle.lex.specs.declared.Num.the-variants as num;
+ghost use Rattle.lex.specs.Text.{numberOf, fieldsFrom};
+ghost use Rattle.forms.specs.Form.{forms as forms·T, key-type, key-node, formAt, kindAt, readAs, readOf, optionalOf, binaryOf, unaryOf, resolutionOf, pairOf, behindOf, store, cellsFrom, fill, outcome, letterOf, tagOf, taggedOf, named, countOf, startOf, shown, lay, parseLine, countIn, widthOf};
+ghost use Rattle.forms.specs.Words.{keyNumbered, indexNumbered};
+
+// The keys, in the order in which they come. NO_KEY is any other word.
+pub const KEY_TYPE: u8 = 0;
+
+pub const KEY_DEF: u8 = 1;
+
+pub const KEY_INST: u8 = 2;
+
+pub const KEY_BIND: u8 = 3;
+
+pub const KEY_NODE: u8 = 4;
+
+pub const KEY_FN: u8 = 5;
+
+pub const NO_KEY: u8 = 6;
+
+// The kinds of a field. A kind's sixteens say how the field is written: 1 a number, 2 a number or `-`, 3 NAME:NUMBER, 4 and 5 the
+// letter of an operator, 6 RES, 7 NAME:RES.
+pub const NOTHING: u8 = 0;
+
+pub const FREE: u8 = 16;
+
+pub const LOW_TYPE: u8 = 17;
+
+pub const TYPE: u8 = 18;
+
+pub const DEF_AHEAD: u8 = 19;
+
+pub const INST_AHEAD: u8 = 20;
+
+pub const EXPR: u8 = 21;
+
+pub const BLOCK: u8 = 22;
+
+pub const STMT: u8 = 23;
+
+pub const PARAM: u8 = 24;
+
+pub const BODY: u8 = 25;
+
+pub const TYPED_PARAM: u8 = 26;
+
+pub const OPT_TYPE: u8 = 32;
+
+pub const OPT_EXPR: u8 = 33;
+
+pub const NAMED_TYPE: u8 = 48;
+
+pub const NAMED_DEF: u8 = 49;
+
+pub const BIN_OP: u8 = 64;
+
+pub const UN_OP: u8 = 80;
+
+pub const RESOLUTION: u8 = 96;
+
+pub const SEGMENT: u8 = 112;
+
+// The kinds of a form's first three fields and of every further one, and the least and the greatest number of fields.
+pub struct Form(pub u8, pub u8, pub u8, pub u8, pub usize, pub usize);
+
+// The numbers of the forms that other crates look for.
+pub const FORM_ARRAY: u16 = 0;
+
+pub const FORM_FUN: u16 = 1;
+
+pub const FORM_INST: u16 = 2;
+
+pub const FORM_FN: u16 = 3;
+
+pub const FORM_BOOL: u16 = 7;
+
+pub const FORM_BLOCK: u16 = 24;
+
+pub const FORM_LET: u16 = 25;
+
+pub const FORM_PARAM: u16 = 26;
+
+// How many there are.
+pub const MOST_FORMS: usize = 30;
+
+const FORMS: [Form; 30] = [
+    Form(17, 0, 0, 0, 1, 1), // type=array,E
+    Form(16, 17, 17, 17, 2, 18), // type=fun,SPAN,OUT,IN..
+    Form(20, 0, 0, 0, 1, 1), // type=inst,K
+    Form(19, 0, 0, 0, 1, 1), // type=fn,D
+    Form(18, 18, 18, 18, 1, 17), // def=OUT,IN..
+    Form(48, 48, 48, 48, 0, 64), // inst=NAME:TYPE,..
+    Form(18, 49, 49, 49, 1, 65), // bind=TYPE,NAME:DEF,..
+    Form(0, 0, 0, 0, 0, 0), // node=bool
+    Form(0, 0, 0, 0, 0, 0), // node=int
+    Form(0, 0, 0, 0, 0, 0), // node=float
+    Form(0, 0, 0, 0, 0, 0), // node=str
+    Form(64, 21, 21, 0, 3, 3), // node=bin,OP,L,R
+    Form(80, 21, 0, 0, 2, 2), // node=un,OP,E
+    Form(21, 16, 0, 0, 2, 2), // node=field,E,NAME
+    Form(21, 21, 21, 21, 0, 64), // node=list,E..
+    Form(21, 21, 0, 0, 2, 2), // node=index,THING,I
+    Form(21, 21, 0, 0, 2, 2), // node=assign,V,E
+    Form(21, 21, 0, 0, 2, 2), // node=opassign,V,E
+    Form(21, 22, 33, 0, 3, 3), // node=if,C,BLOCK,E|-
+    Form(22, 0, 0, 0, 1, 1), // node=loop,BLOCK
+    Form(0, 0, 0, 0, 0, 0), // node=break
+    Form(21, 21, 21, 21, 1, 65), // node=call,F,A..
+    Form(21, 16, 21, 21, 2, 66), // node=mcall,R,NAME,A..
+    Form(33, 0, 0, 0, 1, 1), // node=return,E|-
+    Form(33, 23, 23, 23, 1, 65), // node=block,TAIL|-,S..
+    Form(32, 33, 0, 0, 2, 2), // node=let,TYPE|-,E|-
+    Form(32, 0, 0, 0, 1, 1), // node=param,TYPE|-
+    Form(32, 21, 24, 24, 2, 18), // node=lambda,OUT|-,BODY,P..
+    Form(96, 16, 112, 112, 2, 66), // node=path,RES,RESOLVED,NAME:RES..
+    Form(18, 25, 26, 26, 2, 18), // fn=OUT,BODY,P..
+];
+
+// What a field holds: a name; a tag, which is 0 for `-`, 1 for a number and 1 to 6 for l f c i e o; and a value.
+pub struct Cell {
+    pub name: u16,
+    pub tag: u16,
+    pub value: u16,
+}
+
+pub enum Read {
+    Is(Cell),
+    Bad,
+}
+
+// How many fields a line has, all of their kinds.
+pub enum Got {
+    Count(usize),
+    Bad,
+}
+
+// What is wrong with a line, or with a file: answers 3 to 6.
+pub enum Fault {
+    Form,
+    Limit,
+    Reference,
+    Levels,
+}
+
+// What a line's value is: a fault, or its form's number and how many fields it has.
+pub enum Line {
+    Fault(Fault),
+    Row(u8, usize),
+}
+
+// The form of a `type` line by its word.
+fn type_form(w: u64) -> usize
+    ensures { λ r. ⌜ r ≡ indexNumbered key-type w forms·T ⌝ }
+{
+    match w {
+        0x6172726179 => 0, // array
+        0x66756e => 1, // fun
+        0x696e7374 => 2, // inst
+        0x666e => 3, // fn
+        _ => 30,
+    }
+}
+
+// The form of a `node` line by its word.
+fn node_form(w: u64) -> usize
+    ensures { λ r. ⌜ r ≡ indexNumbered key-node w forms·T ⌝ }
+{
+    match w {
+        0x626f6f6c => 7, // bool
+        0x696e74 => 8, // int
+        0x666c6f6174 => 9, // float
+        0x737472 => 10, // str
+        0x62696e => 11, // bin
+        0x756e => 12, // un
+        0x6669656c64 => 13, // field
+        0x6c697374 => 14, // list
+        0x696e646578 => 15, // index
+        0x61737369676e => 16, // assign
+        0x6f7061737369676e => 17, // opassign
+        0x6966 => 18, // if
+        0x6c6f6f70 => 19, // loop
+        0x627265616b => 20, // break
+        0x63616c6c => 21, // call
+        0x6d63616c6c => 22, // mcall
+        0x72657475726e => 23, // return
+        0x626c6f636b => 24, // block
+        0x6c6574 => 25, // let
+        0x706172616d => 26, // param
+        0x6c616d626461 => 27, // lambda
+        0x70617468 => 28, // path
+        _ => 30,
+    }
+}
+
+// The number of the form of a key and a word, MOST_FORMS where there is none.
+fn form_index(k: u8, w: u64) -> usize
+    ensures { λ r. ⌜ r ≡ indexNumbered k w forms·T ⌝ }
+{
+    match k {
+        KEY_TYPE => type_form(w),
+        KEY_DEF => 4,
+        KEY_INST => 5,
+        KEY_BIND => 6,
+        KEY_NODE => node_form(w),
+        KEY_FN => 29,
+        _ => 30,
+    }
+}
+
+// The key that a word is.
+pub fn key_of(w: u64) -> u8
+    ensures { λ r. ⌜ r ≡ keyNumbered w ⌝ }
+{
+    match w {
+        0x74797065 => KEY_TYPE,
+        0x646566 => KEY_DEF,
+        0x696e7374 => KEY_INST,
+        0x62696e64 => KEY_BIND,
+        0x6e6f6465 => KEY_NODE,
+        0x666e => KEY_FN,
+        _ => NO_KEY,
+    }
+}
+
+// The kind of the field i of a form.
+pub fn kind_at(f: Form, i: usize) -> u8
+    ensures { λ r. ⌜ r ≡ kindAt f i ⌝ }
+{
+    if i == 0 {
+        return f.0;
+    }
+    if i == 1 {
+        return f.1;
+    }
+    if i == 2 {
+        return f.2;
+    }
+    f.3
+}
+
+// The form of a number; of a number that is no form's, one with no fields.
+pub fn form_at(i: usize) -> Form
+    ensures { λ r. ⌜ r ≡ formAt i ⌝ }
+{
+    if i < 30 {
+        return FORMS[i];
+    }
+    Form(0, 0, 0, 0, 0, 0)
+}
+
+// The letter that a field is, 0 where it is no single letter.
+fn letter_of(s: &[u8]) -> u8
+    ensures { λ r. ⌜ r ≡ letterOf (now (s .entry)) ⌝ }
+{
+    if s.len() == 1 {
+        return s[0];
+    }
+    0
+}
+
+// A cell without a name.
+fn nameless(tag: u16, value: u16) -> Cell
+    ensures { λ r. ⌜ r ≡ Rattle.forms.specs.Form.cell 0 tag value ⌝ }
+{
+    Cell {
+        name: 0,
+        tag: tag,
+        value: value,
+    }
+}
+
+fn valued(b: u16, s: &[u8]) -> Read
+    ensures { λ r. ⌜ r ≡ Rattle.forms.specs.Form.valued b (numberOf (now (s .entry))) ⌝ }
+{
+    match lex::number(s) {
+        Num::Is(n) => Read::Is(nameless(b, n)),
+        Num::Bad => Read::Bad,
+    }
+}
+
+fn optional(x: u8, s: &[u8]) -> Read
+    ensures { λ r. ⌜ r ≡ optionalOf x (now (s .entry)) ⌝ }
+{
+    if x == 45 {
+        return Read::Is(nameless(0, 0));
+    }
+    valued(1, s)
+}
+
+fn binary(x: u8) -> Read
+    ensures { λ r. ⌜ r ≡ binaryOf x ⌝ }
+{
+    match x {
+        98 => Read::Is(nameless(1, 0)),
+        99 => Read::Is(nameless(1, 1)),
+        97 => Read::Is(nameless(1, 2)),
+        _ => Read::Bad,
+    }
+}
+
+fn unary(x: u8) -> Read
+    ensures { λ r. ⌜ r ≡ unaryOf x ⌝ }
+{
+    match x {
+        100 => Read::Is(nameless(1, 0)),
+        114 => Read::Is(nameless(1, 1)),
+        110 => Read::Is(nameless(1, 2)),
+        116 => Read::Is(nameless(1, 3)),
+        _ => Read::Bad,
+    }
+}
+
+// The tag of a first letter: l f c i e o from 1, 0 of any other.
+fn tag_of(x: u8) -> u16
+    ensures { λ r. ⌜ r ≡ tagOf x ⌝ }
+{
+    match x {
+        108 => 1,
+        102 => 2,
+        99 => 3,
+        105 => 4,
+        101 => 5,
+        111 => 6,
+        _ => 0,
+    }
+}
+
+fn tagged(b: u16, s: &[u8]) -> Read
+    requires { ⌜ 0 < length (now s) ⌝ }
+    ensures { λ r. ⌜ r ≡ taggedOf b (now (s .entry)) ⌝ }
+{
+    if b == 0 {
+        return Read::Bad;
+    }
+    if b <= 4 {
+        return valued(b, &s[1..]);
+    }
+    if s.len() == 1 {
+        return Read::Is(nameless(b, 0));
+    }
+    Read::Bad
+}
+
+fn resolution(s: &[u8]) -> Read
+    ensures { λ r. ⌜ r ≡ resolutionOf (now (s .entry)) ⌝ }
+{
+    if s.len() == 0 {
+        return Read::Bad;
+    }
+    tagged(tag_of(s[0]), s)
+}
+
+// NAME:RES where p, else NAME:NUMBER.
+fn pair(p: bool, s: &[u8]) -> Read
+    ensures { λ r. ⌜ r ≡ pairOf p (now (s .entry)) ⌝ }
+{
+    let e = lex::field_end(s, 0, 58);
+    if s.len() <= e {
+        return Read::Bad;
+    }
+    match lex::number(&s[0..e]) {
+        Num::Is(a) => renamed(a, behind(p, &s[e + 1..])),
+        Num::Bad => Read::Bad,
+    }
+}
+
+fn behind(p: bool, s: &[u8]) -> Read
+    ensures { λ r. ⌜ r ≡ behindOf p (now (s .entry)) ⌝ }
+{
+    if p {
+        return resolution(s);
+    }
+    valued(1, s)
+}
+
+fn renamed(a: u16, r: Read) -> Read
+    ensures { λ q. ⌜ q ≡ named (num.Is a) r ⌝ }
+{
+    match r {
+        Read::Is(c) => Read::Is(Cell {
+            name: a,
+            tag: c.tag,
+            value: c.value,
+        }),
+        Read::Bad => Read::Bad,
+    }
+}
+
+fn read_class(c: u8, s: &[u8]) -> Read
+    ensures { λ r. ⌜ r ≡ readAs c (now (s .entry)) ⌝ }
+{
+    match c {
+        1 => valued(1, s),
+        2 => optional(letter_of(s), s),
+        3 => pair(false, s),
+        4 => binary(letter_of(s)),
+        5 => unary(letter_of(s)),
+        6 => resolution(s),
+        7 => pair(true, s),
+        _ => Read::Bad,
+    }
+}
+
+// What a field of a kind holds.
+fn read_as(k: u8, s: &[u8]) -> Read
+    ensures { λ r. ⌜ r ≡ readOf k (now (s .entry)) ⌝ }
+{
+    read_class(k / 16, s)
+}
+
+// A cell at its place of the table of fields, where it is in it.
+fn put_cell(t: &mut [u16], j: usize, c: Cell)
+    requires { ⌜ j ≤ 16777216 ⌝ }
+    ensures { λ r. ⌜ now (t .exit) ≡ store (now (t .entry)) j c ⌝ }
+{
+    if j * 3 + 3 <= t.len() {
+        t[j * 3] = c.name;
+        t[j * 3 + 1] = c.tag;
+        t[j * 3 + 2] = c.value;
+    }
+}
+
+// Reads the fields from start on as those of the form f, and stores their cells from at on.
+fn fields(v: &[u8], start: usize, f: Form, t: &mut [u16], at: usize) -> Got
+    requires { ⌜ (length (now v) ≤ 65536) × (start ≤ length (now v) + 1) × (at ≤ 65536) ⌝ }
+    ensures within { λ r. ⌜ countIn r ≤ length (now (v .entry)) + 1 ⌝ }
+    ensures { λ r. ⌜ outcome r (now (t .exit)) ≡ fill 0 (now (t .entry)) at (cellsFrom f 0 (fieldsFrom start (now (v .entry)))) ⌝ }
+{
+    let mut p = start;
+    let mut i = 0;
+    while p <= v.len() {
+        let e = lex::field_end(v, p, 44);
+        let k = kind_at(f, i);
+        let Read::Is(c) = read_as(k, &v[p..e]) else {
+            return Got::Bad;
+        };
+        put_cell(t, at + i, c);
+        i += 1;
+        p = e + 1;
+    }
+    Got::Count(i)
+}
+
+fn count_of(i: u8, f: Form, n: usize) -> Line
+    ensures { λ r. ⌜ r ≡ countOf i f n ⌝ }
+{
+    if n < f.4 {
+        return Line::Fault(Fault::Form);
+    }
+    if f.5 < n {
+        return Line::Fault(Fault::Limit);
+    }
+    Line::Row(i, n)
+}
+
+fn start_of(k: u8, n: usize, e: usize) -> usize
+    requires { ⌜ e ≤ n ⌝ }
+    requires { ⌜ n ≤ 65536 ⌝ }
+    ensures { λ r. ⌜ r ≡ startOf k n e ⌝ }
+    ensures { λ r. ⌜ r ≤ n + 1 ⌝ }
+{
+    if k == KEY_TYPE {
+        return e + 1;
+    }
+    if k == KEY_NODE {
+        return e + 1;
+    }
+    if n == 0 {
+        return 1;
+    }
+    0
+}
+
+// Reads a line's value, of the key k, and stores its cells from at on.
+pub fn read_line(k: u8, v: &[u8], t: &mut [u16], at: usize) -> Line
+    requires { ⌜ (length (now v) ≤ 65536) × (at ≤ 65536) ⌝ }
+    ensures within { λ r. ⌜ widthOf r ≤ length (now (v .entry)) + 1 ⌝ }
+    ensures { λ r. ⌜ shown r (now (t .exit)) ≡ lay (parseLine k (now (v .entry))) (now (t .entry)) at ⌝ }
+{
+    let e = lex::field_end(v, 0, 44);
+    let i = form_index(k, lex::pack(&v[0..e]));
+    if 30 <= i {
+        return Line::Fault(Fault::Form);
+    }
+    let f = form_at(i);
+    match fields(v, start_of(k, v.len(), e), f, t, at) {
+        Got::Count(n) => count_of(i as u8, f, n),
+        Got::Bad => Line::Fault(Fault::Form),
+    }
+}

@@ -1,0 +1,146 @@
+-- Laws of the definitions in specs/Text.antt, at a place i of a list: one step, and the end.
+-- Assumes nothing.
+use Prim.Native.Nat.{ℕ, suc, _+_, _*_, _-_, _<_, _≤_}
+use mathlib.Core.Path.{_≡_, refl, sym, _∙_}
+use mathlib.Core.List.{List, [], _∷_}
+use mathlib.Core.Bool.{Bool, true, false, cond}
+use native.Mathlib.Numerals.{add-one}
+use native.Mathlib.Nat.{add-zero, add-suc, add-sub-cancel-left}
+use native.Mathlib.Omega.{arith}
+use lib.Dec.{leb, ltb, eqb, leb·suc-suc}
+use lib.ListN.{length, getD, take, drop, drop-of-length-le, length-drop}
+use lib.Seq.{drop-cons, drop-drop}
+use borrow.Author.Tests.{lt-leb, le-leb, lt-ltb, le-ltb, eq-eqb, ne-eqb, ltb-true, ltb-false}
+use Rattle.lex.specs.Text.{numberOf, digitsFrom, before, packFrom, letter, split, partsFrom}
+use Rattle.lex.specs.declared.Num.{Num}
+use Rattle.lex.specs.declared.Num.the-variants.{Is, Bad}
+
+-- the rest of a list that is not at its end
+pub next : (s : List ℕ) (i x : ℕ) → i < length s → x ≡ getD s i 0 → drop i s ≡ x ∷ drop (i + 1) s
+next s i x h e = rw (e, add-one, drop-cons s i 0)
+
+-- past 65,535 nothing makes it a number again
+pub over : (xs : List ℕ) (a : ℕ) → 65535 < a → digitsFrom a xs ≡ Bad
+unfolding digitsFrom
+over [] a h = simp (lt-leb a 65535 h)
+over (x ∷ xs) a h = rw (over xs (a * 10 + (x - 48)) (omega arith)) (same (leb 48 x) (leb x 57))
+  where
+    same : (p q : Bool) → cond p (cond q Bad Bad) Bad ≡ Bad
+    same true true = refl
+    same true false = refl
+    same false q = refl
+
+-- one digit, at the place i, where what is asked (w) comes down to the rest from i
+module _ (w : Num) (s : List ℕ) (n i x : ℕ) (inv : w ≡ digitsFrom n (drop i s)) (h : i < length s) (e : x ≡ getD s i 0) where
+  pub low : x < 48 → w ≡ Bad
+  unfolding digitsFrom
+  low l = inv ∙ rw (next s i x h e, lt-leb 48 x l)
+
+  pub high : 57 < x → w ≡ Bad
+  unfolding digitsFrom
+  high l = inv ∙ rw (next s i x h e, le-leb 48 x (omega arith), lt-leb x 57 l)
+
+  pub digit : 48 ≤ x → x ≤ 57 → w ≡ digitsFrom (n * 10 + (x - 48)) (drop (i + 1) s)
+  unfolding digitsFrom
+  digit l u = inv ∙ rw (next s i x h e, le-leb 48 x l, le-leb x 57 u)
+
+  pub large : 48 ≤ x → x ≤ 57 → 65535 < n * 10 + (x - 48) → w ≡ Bad
+  large l u o = digit l u ∙ over (drop (i + 1) s) (n * 10 + (x - 48)) o
+
+pub last : (w : Num) (s : List ℕ) (n i : ℕ) → w ≡ digitsFrom n (drop i s) → length s ≤ i → n ≤ 65535 → w ≡ Is n
+unfolding digitsFrom
+last w s n i inv h l = inv ∙ rw (drop-of-length-le s h, le-leb n 65535 l)
+
+-- a number by its length and its first digit
+pub empty : (s : List ℕ) → length s ≡ 0 → numberOf s ≡ Bad
+unfolding numberOf
+empty [] h = refl
+empty (x ∷ xs) h = absurd (omega arith)
+
+pub single : (s : List ℕ) → length s ≡ 1 → numberOf s ≡ digitsFrom 0 s
+unfolding numberOf
+single [] h = absurd (omega arith)
+single (x ∷ []) h = refl
+single (x ∷ y ∷ ys) h = absurd (omega arith)
+
+pub leading : (s : List ℕ) → (length s ≡ 0 → ⊥) → (length s ≡ 1 → ⊥) → getD s 0 0 ≡ 48 → numberOf s ≡ Bad
+unfolding numberOf
+leading [] p q e = absurd (p refl)
+leading (x ∷ []) p q e = absurd (q refl)
+leading (x ∷ y ∷ ys) p q e = rw (eq-eqb x 48 e)
+
+pub plain : (s : List ℕ) → (getD s 0 0 ≡ 48 → ⊥) → (length s ≡ 0 → ⊥) → numberOf s ≡ digitsFrom 0 s
+unfolding numberOf
+plain [] n p = absurd (p refl)
+plain (x ∷ []) n p = refl
+plain (x ∷ y ∷ ys) n p = rw (ne-eqb x 48 n)
+
+-- the end of a field, w, where it comes down to the rest from i
+module _ (w : ℕ) (s : List ℕ) (i c : ℕ) (inv : w ≡ i + before c (drop i s)) where
+  pub found : i < length s → getD s i 0 ≡ c → w ≡ i
+  unfolding before
+  found h q = inv ∙ rw (next s i (getD s i 0) h refl, eq-eqb (getD s i 0) c q) (add-zero i)
+
+  pub none : length s ≤ i → w ≡ i
+  unfolding before
+  none h = inv ∙ rw (drop-of-length-le s h) (add-zero i)
+
+  pub passed : i < length s → (getD s i 0 ≡ c → ⊥) → w ≡ i + 1 + before c (drop (i + 1) s)
+  unfolding before
+  passed h q = inv ∙ rw (next s i (getD s i 0) h refl, ne-eqb (getD s i 0) c q) (omega arith)
+
+-- a word, w, where it comes down to the rest from i
+module _ (w : ℕ) (s : List ℕ) (a i : ℕ) (inv : w ≡ packFrom a (drop i s)) where
+  pub letter-at : (x : ℕ) → i < length s → x ≡ getD s i 0 → a < 72057594037927936 → (x ≡ 0 → ⊥) → x < 256 → w ≡ packFrom (a * 256 + x) (drop (i + 1) s)
+  unfolding packFrom letter
+  letter-at x h e l n r = inv ∙ rw (next s i x h e, lt-ltb a 72057594037927936 l, ne-eqb x 0 n, lt-ltb x 256 r)
+
+  pub nul : (x : ℕ) → i < length s → x ≡ getD s i 0 → a < 72057594037927936 → x ≡ 0 → w ≡ 0
+  unfolding packFrom letter
+  nul x h e l n = inv ∙ rw (next s i x h e, lt-ltb a 72057594037927936 l, eq-eqb x 0 n)
+
+  pub whole : length s ≤ i → w ≡ a
+  unfolding packFrom
+  whole h = inv ∙ rw (drop-of-length-le s h)
+
+  pub long : i < length s → 72057594037927936 ≤ a → w ≡ 0
+  unfolding packFrom
+  long h l = inv ∙ rw (next s i (getD s i 0) h refl, le-ltb a 72057594037927936 l)
+
+-- a list's first part, and the parts behind it
+split-first : (c : ℕ) (l : List ℕ) → split c l ≡ take (before c l) l ∷ cond (ltb (before c l) (length l)) (split c (drop (suc (before c l)) l)) []
+unfolding split before
+split-first c [] = refl
+split-first c (x ∷ xs) = by (eqb x c) refl (split-first c xs)
+  where
+    by : (b : Bool) → eqb x c ≡ b → split c xs ≡ take (before c xs) xs ∷ cond (ltb (before c xs) (length xs)) (split c (drop (suc (before c xs)) xs)) []
+        → split c (x ∷ xs) ≡ take (before c (x ∷ xs)) (x ∷ xs) ∷ cond (ltb (before c (x ∷ xs)) (length (x ∷ xs))) (split c (drop (suc (before c (x ∷ xs))) (x ∷ xs))) []
+    by true e ih = rw (e, lt-ltb 0 (suc (length xs)) (omega arith))
+    by false e ih = rw (e, ih, leb·suc-suc (suc (before c xs)) (length xs))
+
+same-test : (a b c d : ℕ) → (a < b → c ≤ d) → (b ≤ a → d < c) → ltb a b ≡ leb c d
+same-test a b c d f g = by (ltb a b) refl
+  where
+    by : (t : Bool) → ltb a b ≡ t → ltb a b ≡ leb c d
+    by true e = e ∙ sym (le-leb c d (f (ltb-true a b e)))
+    by false e = e ∙ sym (lt-leb c d (g (ltb-false a b e)))
+
+pub first-part : (c : ℕ) (v : List ℕ) (p e : ℕ) → p ≤ length v → e ≡ p + before c (drop p v) → partsFrom c p v ≡ take (e - p) (drop p v) ∷ partsFrom c (e + 1) v
+unfolding partsFrom
+first-part c v p e h q =
+    let b : ℕ = before c (drop p v) in
+    rw (
+      le-leb p (length v) h,
+      split-first c (drop p v),
+      drop-drop (suc b) p v,
+      q,
+      length-drop p v,
+      same-test b (length v - p) (p + b + 1) (length v) (λ l. omega arith) (λ l. omega arith),
+      add-suc p b,
+      ← add-one (p + b),
+      add-sub-cancel-left p b,
+    )
+
+pub no-part : (c : ℕ) (v : List ℕ) (p : ℕ) → length v < p → partsFrom c p v ≡ []
+unfolding partsFrom
+no-part c v p h = rw (lt-leb p (length v) h)

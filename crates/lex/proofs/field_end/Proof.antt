@@ -1,0 +1,27 @@
+use Prim.Native.Nat.{_≤_, _-_, _+_}
+use mathlib.Core.Path.{_≡_, sym}
+use borrow.Author.Needs.{needs}
+use lib.ListN.{length, drop}
+use Rattle.lex.specs.Text.{before}
+use Rattle.lex.proofs.Laws.{found, passed, none}
+use Rattle.lex.proofs.field_end.Statement.{statement}
+use Rattle.lex.proofs.field_end.Tie as tie
+
+abbrev Inv-loop : tie.InvT-loop
+Inv-loop s p c i₀ i = (p ≤ i) × (i ≤ length s) × (p + before c (drop p s) ≡ i + before c (drop i s))
+
+abbrev μ-loop : tie.MeasureT-loop
+μ-loop s p c i₀ i = length s - i
+
+pub field-end-spec : {M : Type 1} → statement M
+field-end-spec =
+    tie.close (tie.spec
+    Inv-loop
+    μ-loop
+    (λ c. search needs)
+    (λ c. search needs)
+    (λ c. (sym (search found), search needs))
+    (λ c. search needs)
+    (λ c. search needs)
+    (λ c. (search needs, search needs, search passed))
+    (λ c. (sym (search none), search needs)))

@@ -1,0 +1,98 @@
+// The lexical layer of a line: numbers, fields and words of a part of the input.
+ghost use mathlib.Core.Path.{_≡_};
+ghost use Prim.Native.Nat.{_+_, _<_, _≤_};
+ghost use lib.ListN.{length, drop};
+ghost use Rattle.lex.specs.Text.{numberOf, digitsFrom, before, pack};
+
+// What a field holds, read as a number.
+pub enum Num {
+    Is(u16),
+    Bad,
+}
+
+fn wide(x: u8) -> u32
+    ensures { λ r. ⌜ r ≡ x ⌝ }
+{
+    x as u32
+}
+
+// The number that a field is: decimal, no leading zero, at most 65,535.
+pub fn number(s: &[u8]) -> Num
+    ensures { λ r. ⌜ r ≡ numberOf (now (s .entry)) ⌝ }
+{
+    if s.len() == 0 {
+        return Num::Bad;
+    }
+    if s.len() == 1 {
+        return digits(s);
+    }
+    if s[0] == 48 {
+        return Num::Bad;
+    }
+    digits(s)
+}
+
+fn digits(s: &[u8]) -> Num
+    ensures { λ r. ⌜ r ≡ digitsFrom 0 (now (s .entry)) ⌝ }
+{
+    let mut n: u32 = 0;
+    let mut i = 0;
+    while i < s.len() {
+        let d = wide(s[i]);
+        if d < 48 {
+            return Num::Bad;
+        }
+        if 57 < d {
+            return Num::Bad;
+        }
+        n = n * 10 + (d - 48);
+        if 65535 < n {
+            return Num::Bad;
+        }
+        i += 1;
+    }
+    Num::Is(n as u16)
+}
+
+// The end of the field that starts at p: the next separator, or the end.
+pub fn field_end(s: &[u8], p: usize, c: u8) -> usize
+    requires { ⌜ p ≤ length (now s) ⌝ }
+    ensures { λ r. ⌜ r ≡ p + before c (drop p (now (s .entry))) ⌝ }
+    ensures within { λ r. ⌜ (p ≤ r) × (r ≤ length (now (s .entry))) ⌝ }
+{
+    let mut i = p;
+    while i < s.len() {
+        if s[i] == c {
+            return i;
+        }
+        i += 1;
+    }
+    i
+}
+
+fn wider(x: u8) -> u64
+    ensures { λ r. ⌜ r ≡ x ⌝ }
+    ensures { λ r. ⌜ r < 256 ⌝ }
+{
+    x as u64
+}
+
+// A word as one number, 0 where it is too long or has a byte 0.
+pub fn pack(s: &[u8]) -> u64
+    ensures { λ r. ⌜ r ≡ pack (now (s .entry)) ⌝ }
+{
+    let mut a: u64 = 0;
+    let mut i = 0;
+    while i < s.len() {
+        if 72057594037927936 <= a {
+            return 0;
+        }
+        let x = wider(s[i]);
+        if x == 0 {
+            return 0;
+        }
+        a = a * 256 + x;
+        i += 1;
+    }
+    a
+}
