@@ -1,0 +1,12 @@
+pub mod Good
+pub mod Parsed
+pub mod Kept
+pub mod Linked
+pub mod Stored
+pub mod Counting
+pub mod Frame
+pub mod Reading
+pub mod Step
+pub mod WellFormed
+pub mod UsedOnce
+pub mod Weight

@@ -1,0 +1,1 @@
+// What is known of the tables of a body that was read: definitions and theorems, no code.
