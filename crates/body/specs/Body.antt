@@ -12,7 +12,7 @@ use Rattle.forms.specs.declared.Fault.{Fault}
 use Rattle.forms.specs.declared.Fault.the-variants as fault
 use Rattle.forms.specs.Form.{key-type, key-def, key-inst, key-bind, key-node, key-fn, keyOf, formAt, parseLine, Laid, faulty, laid, lay}
 use Rattle.refs.specs.declared.Counts.{Counts}
-use Rattle.refs.specs.Refs.{types-at, defs-at, insts-at, binds-at, nodes-at, fn-at, formIn, firstIn, valueIn, Linked, unlinked, linked, refsFrom, isRepeated}
+use Rattle.refs.specs.Refs.{types-at, defs-at, insts-at, binds-at, nodes-at, fn-at, form-fun, form-inst, form-fn, form-bool, form-path, formIn, firstIn, valueIn, Linked, unlinked, linked, refsFrom, isRepeated}
 use Rattle.body.specs.declared.State.{State}
 use Rattle.body.specs.declared.Step.{Step}
 use Rattle.body.specs.declared.Step.the-variants as step
@@ -80,7 +80,7 @@ deeper d = cond (ltb d 65) (d + 1) 65
 
 -- the levels of a line of the form f over parts of d levels: a `fun` and a node are a level of their own
 unfoldable pub levelsOver : ℕ → ℕ → ℕ
-levelsOver f d = cond (eqb f 1) (deeper d) (cond (ltb f 7) d (cond (ltb 28 f) d (deeper d)))
+levelsOver f d = cond (eqb f form-fun) (deeper d) (cond (ltb f form-bool) d (cond (ltb form-path f) d (deeper d)))
 
 -- more levels than a line of the key k may have: 4 of fun in fun, 64 of nodes
 unfoldable pub isDeep : ℕ → ℕ → Bool
@@ -135,8 +135,8 @@ stepOf l st cells rows =
 -- a type row whose K or D the body does not have
 unfoldable pub isAhead : ℕ → Counts → List ℕ → List ℕ → Bool
 isAhead r n cells rows =
-    cond (eqb (formIn rows r) 2) (leb (n .insts) (valueIn cells (firstIn rows r)))
-    (cond (eqb (formIn rows r) 3) (leb (n .defs) (valueIn cells (firstIn rows r))) false)
+    cond (eqb (formIn rows r) form-inst) (leb (n .insts) (valueIn cells (firstIn rows r)))
+    (cond (eqb (formIn rows r) form-fn) (leb (n .defs) (valueIn cells (firstIn rows r))) false)
 
 -- the first such row of m from r on, r + m where there is none
 unfoldable pub firstAhead : ℕ → ℕ → Counts → List ℕ → List ℕ → ℕ

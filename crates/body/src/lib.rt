@@ -159,16 +159,16 @@ fn counted(n: Counts, k: u8, m: u16) -> Counts
 
 // The levels of a line of the form f over parts of d levels: a function type and a node are a level of their own. 65 stands for all
 // above 64.
-fn levels_of(f: u8, d: u16) -> u16
+fn levels_of(f: u16, d: u16) -> u16
     ensures { λ r. ⌜ r ≡ levelsOver f d ⌝ }
 {
-    if f == 1 {
+    if f == forms::FORM_FUN {
         return deeper(d);
     }
-    if f < 7 {
+    if f < forms::FORM_BOOL {
         return d;
     }
-    if 28 < f {
+    if forms::FORM_PATH < f {
         return d;
     }
     deeper(d)
@@ -257,7 +257,7 @@ fn judge(st: State, k: u8, f: u8, m: u16, cells: &[u16], rows: &mut [u16]) -> St
         let at = n.fields;
         match refs::link_fields(n, forms::form_at(f as usize), m, cells, rows) {
             Refs::Levels(d) => {
-                let e = levels_of(f, d);
+                let e = levels_of(f as u16, d);
                 put_row(rows, base_of(k) + j as u32, f as u16, at, m, e);
                 Step::Next(advance(st, k, m, e))
             }

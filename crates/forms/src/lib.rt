@@ -68,7 +68,7 @@ pub const SEGMENT: u8 = 112;
 // The kinds of a form's first three fields and of every further one, and the least and the greatest number of fields.
 pub struct Form(pub u8, pub u8, pub u8, pub u8, pub usize, pub usize);
 
-// The numbers of the forms that other crates look for.
+// The numbers of the forms that other crates look for; those of nodes go from FORM_BOOL to FORM_PATH.
 pub const FORM_ARRAY: u16 = 0;
 
 pub const FORM_FUN: u16 = 1;
@@ -84,6 +84,8 @@ pub const FORM_BLOCK: u16 = 24;
 pub const FORM_LET: u16 = 25;
 
 pub const FORM_PARAM: u16 = 26;
+
+pub const FORM_PATH: u16 = 28;
 
 // How many there are.
 pub const MOST_FORMS: usize = 30;

@@ -38,7 +38,23 @@ fixed-types = 14
 abbrev pub diverges : ℕ
 diverges = 13
 
--- the forms that reference rules name
+-- the forms that rules name, by their places in the table
+abbrev pub form-fun : ℕ
+form-fun = 1
+
+abbrev pub form-inst : ℕ
+form-inst = 2
+
+abbrev pub form-fn : ℕ
+form-fn = 3
+
+-- the first form of a node, and the last
+abbrev pub form-bool : ℕ
+form-bool = 7
+
+abbrev pub form-path : ℕ
+form-path = 28
+
 abbrev pub form-block : ℕ
 form-block = 24
 

@@ -168,7 +168,7 @@ fn is_type(n: Counts, x: u16) -> bool
         return false;
     }
     let t = n.types;
-    (x as u32) < t as u32 + 14
+    (x as u32) < t as u32 + FIXED_TYPES as u32
 }
 
 // Neither a let nor a param.

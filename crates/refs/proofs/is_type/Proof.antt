@@ -11,4 +11,5 @@ is-type-spec =
     (λ c. search eq-eqb)
     (λ c. search needs)
     (λ c. search needs)
+    (λ c. search needs)
     (λ c. search ne-eqb))
