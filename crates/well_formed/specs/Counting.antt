@@ -138,6 +138,26 @@ grown n k m j i h = by (eqb j key-type) refl (eqb j key-def) refl (eqb j key-ins
     by false p false q false r false s true t h = below-grown j k key-node i (n .nodes) t h
     by false p false q false r false s false t h = absurd (omega arith)
 
+-- a line takes no row away,
+pub counted-more : (n : Counts) (k m j : ℕ) → j ≤ key-node → countOf n j ≤ countOf (counted n k m) j
+unfolding countOf counted
+counted-more n k m zero h = step-le (eqb k key-type) (n .types)
+counted-more n k m (suc zero) h = step-le (eqb k key-def) (n .defs)
+counted-more n k m (suc (suc zero)) h = step-le (eqb k key-inst) (n .insts)
+counted-more n k m (suc (suc (suc zero))) h = step-le (eqb k key-bind) (n .binds)
+counted-more n k m (suc (suc (suc (suc zero)))) h = step-le (eqb k key-node) (n .nodes)
+counted-more n k m (suc (suc (suc (suc (suc j))))) h = absurd (omega arith)
+
+-- and its key has a row more
+pub counted-own : (n : Counts) (k m : ℕ) → k ≤ key-node → countOf (counted n k m) k ≡ countOf n k + 1
+unfolding countOf counted
+counted-own n zero m h = refl
+counted-own n (suc zero) m h = refl
+counted-own n (suc (suc zero)) m h = refl
+counted-own n (suc (suc (suc zero))) m h = refl
+counted-own n (suc (suc (suc (suc zero)))) m h = refl
+counted-own n (suc (suc (suc (suc (suc k))))) m h = absurd (omega arith)
+
 -- the counts stay within the limits
 pub counted-limited : (n : Counts) (k m : ℕ) → ((j : ℕ) → countOf n j ≤ limitOf j) → countOf n k < limitOf k → (j : ℕ) → countOf (counted n k m) j ≤ limitOf j
 counted-limited n k m l h j = by (countOf (counted n k m) j) (grown n k m j)

@@ -5,12 +5,12 @@ use mathlib.Core.Path.{_≡_}
 use mathlib.Core.Logic.{_⊎_}
 use mathlib.Core.List.{List}
 use mathlib.Core.Bool.{Bool, true, false, cond}
-use lib.Dec.{leb, ltb, eqb}
+use lib.Dec.{ltb, eqb}
 use lib.ListN.{length, getD}
-use Rattle.forms.specs.Form.{forms, no-form, formAt, kindAt, key-type, key-def, key-inst, key-bind, key-node, key-fn, DefAhead, InstAhead}
+use Rattle.forms.specs.Form.{forms, no-form, formAt, kindAt, key-type, key-def, key-inst, key-bind, key-node, key-fn}
 use Rattle.refs.specs.declared.Counts.{Counts}
-use Rattle.refs.specs.Refs.{nodes-at, fn-at, fixed-types, diverges, formIn, firstIn, countIn, levelsIn, userIn, tagIn, valueIn, a-type, a-def, a-node, a-res, refersTo, isChild, isExpr, stands, levelsOf}
-use Rattle.body.specs.Body.{limitOf, countOf, baseOf, levelsOver, rows-length, cells-length}
+use Rattle.refs.specs.Refs.{nodes-at, fn-at, fixed-types, diverges, formIn, firstIn, countIn, levelsIn, userIn, tagIn, valueIn, a-type, a-def, a-res, refersTo, isChild, isExpr, stands, levelsOf}
+use Rattle.body.specs.Body.{countOf, baseOf, levelsOver, rows-length, cells-length}
 
 -- a tag and a value that a field written in the way c can have: a number; a number or `-`; NAME:NUMBER; an operator; RES; NAME:RES
 unfoldable pub writtenAs : ℕ → ℕ → ℕ → Bool

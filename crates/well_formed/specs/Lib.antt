@@ -4,9 +4,13 @@ pub mod Kept
 pub mod Linked
 pub mod Stored
 pub mod Counting
+pub mod Zeros
 pub mod Frame
 pub mod Reading
 pub mod Step
 pub mod WellFormed
+pub mod Answers
 pub mod UsedOnce
 pub mod Weight
+pub mod Levels
+pub mod Claims

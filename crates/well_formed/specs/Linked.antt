@@ -21,6 +21,7 @@ use Rattle.well_formed.specs.Kept.{stands-same, field-kept}
 pub record LinkedGood (m : ℕ) (n : Counts) (f : Form) (i j : ℕ) (cells : List ℕ) (d : ℕ) (rows : List ℕ) (e : ℕ) (rows′ : List ℕ) : Type 0 where
   pub same-length : length rows′ ≡ length rows
   pub columns : (r c : ℕ) → c < 4 → getD rows′ (r * 5 + c) 0 ≡ getD rows (r * 5 + c) 0
+  pub outside : (x : ℕ) → ((y : ℕ) → y < n .nodes → x ≡ (nodes-at + y) * 5 + 4 → ⊥) → getD rows′ x 0 ≡ getD rows x 0
   pub user-kept : (r : ℕ) → (userIn rows r ≡ 0 → ⊥) → userIn rows′ r ≡ userIn rows r
   pub fields : (a : ℕ) → a < m → FieldGood n (kindAt f (i + a)) (j + a) rows′ cells
   pub levels : (a : ℕ) → a < m → levelsOf (kindAt f (i + a)) (tagIn cells (j + a)) (valueIn cells (j + a)) rows ≤ e
@@ -82,6 +83,16 @@ right-child n k tag x rows cells c h =
     let free = both (ltb x (n .nodes)) (cond (eqb (userIn rows (nodes-at + x)) 0) (stands n k x rows cells) false) (rw (q .1, q .0) at h) in
     let rest = both (eqb (userIn rows (nodes-at + x)) 0) (stands n k x rows cells) (free .1) in
     (ltb-true _ _ (free .0), eqb-true _ _ (rest .0), rest .1)
+
+-- to take a child keeps all but the users of nodes
+taken-outside : (n : Counts) (k tag x j : ℕ) (rows cells : List ℕ) → right n k tag x rows cells ≡ true
+    → (z : ℕ) → ((y : ℕ) → y < n .nodes → z ≡ (nodes-at + y) * 5 + 4 → ⊥) → getD (taken k tag x j rows) z 0 ≡ getD rows z 0
+unfolding taken
+taken-outside n k tag x j rows cells h z o = by (isChild k tag) refl
+  where
+    by : (b : Bool) → isChild k tag ≡ b → getD (cond b (set rows ((nodes-at + x) * 5 + 4) (j + 1)) rows) z 0 ≡ getD rows z 0
+    by true c = getD-set-other rows ((nodes-at + x) * 5 + 4) z (j + 1) 0 (o x (right-child n k tag x rows cells c h .0))
+    by false c = refl
 
 -- to take a child keeps the users that are there
 taken-user : (n : Counts) (k tag x j : ℕ) (rows cells : List ℕ) → right n k tag x rows cells ≡ true
@@ -236,6 +247,7 @@ no-fields : (n : Counts) (f : Form) (i j : ℕ) (cells : List ℕ) (d : ℕ) (ro
 no-fields n f i j cells d rows = record {
   same-length = refl;
   columns = λ r c l. refl;
+  outside = λ x o. refl;
   user-kept = λ r z. refl;
   fields = λ a l. absurd (omega arith);
   levels = λ a l. absurd (omega arith);
@@ -260,6 +272,7 @@ one-more m n f i j cells d rows e rows′ room w h rest =
     record {
       same-length = rest .same-length ∙ taken-length k tag x j rows;
       columns = λ r c l. rest .columns r c l ∙ same r c l;
+      outside = λ z o. rest .outside z o ∙ taken-outside n k tag x j rows cells h z o;
       user-kept = λ r z. rest .user-kept r (λ q. z (sym (kept r z) ∙ q)) ∙ kept r z;
       fields = all-fields (λ p q. FieldGood n (kindAt f p) q rows′ cells) m i j good (rest .fields);
       levels =

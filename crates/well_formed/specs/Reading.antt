@@ -16,10 +16,11 @@ use Rattle.body.specs.declared.State.{State}
 use Rattle.body.specs.Body.{limitOf, countOf, baseOf, counted, isDeep, rows-length, cells-length}
 use Rattle.well_formed.specs.Good.{behind, RowGood, RowsGood, Ordered, FnLast}
 use Rattle.well_formed.specs.Counting.{counted-within, counted-fields, behind-within, behind-less, rows-apart}
+use Rattle.well_formed.specs.Zeros.{ZeroBehind}
 use Rattle.well_formed.specs.Frame.{Frame, frame-less, row-framed}
 
 -- the tables behind some lines: long enough, the counts within the limits, no row of a key behind the state's, each row good, the fields in
--- the order of the rows, and no row too deep unless the state says so
+-- the order of the rows, no row too deep unless the state says so, and zero past the used rows
 pub record Reading (st : State) (cells rows : List ℕ) : Type 0 where
   pub rows-long : rows-length ≤ length rows
   pub cells-long : cells-length ≤ length cells
@@ -30,6 +31,7 @@ pub record Reading (st : State) (cells rows : List ℕ) : Type 0 where
   pub ordered : Ordered (st .counts) rows
   pub fn-last : st .key ≡ key-fn → FnLast (st .counts) rows
   pub levels : st .deep ≡ false → (k i : ℕ) → i < countOf (st .counts) k → isDeep k (levelsIn rows (baseOf k + i)) ≡ false
+  pub zero : ZeroBehind (st .counts) rows cells
 
 -- the four numbers of every row but r stay, and so does the user of each node that has one
 pub record RowsKept (r : ℕ) (rows rows′ : List ℕ) : Type 0 where

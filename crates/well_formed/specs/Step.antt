@@ -23,6 +23,7 @@ use Rattle.well_formed.specs.Parsed.{ParsedGood, parsed-good}
 use Rattle.well_formed.specs.Linked.{LinkedGood, linked-good}
 use Rattle.well_formed.specs.Stored.{stored-length, stored-before, stored-tag, stored-value, put-length, put-other, put-user, put-form, put-first, put-count, put-levels}
 use Rattle.well_formed.specs.Counting.{counted-fields, behind-new, behind-new-nodes, grown, counted-limited, rows-inside}
+use Rattle.well_formed.specs.Zeros.{zero-line}
 use Rattle.well_formed.specs.Frame.{Frame, LineGood, levels-framed, line-framed, row-of}
 use Rattle.well_formed.specs.Reading.{Reading, RowsKept, counted-key, next-apart, kept-first, kept-count, kept-levels, next-frame, rows-stay}
 
@@ -233,6 +234,7 @@ module _ (st : State) (k f : ℕ) (v : List ℕ) (l : List Cell) (cells rows : L
     ordered = λ j i j′ i′ h h′. ordered-new j i j′ i′ (grown n k (length l) j i h) (grown n k (length l) j′ i′ h′);
     fn-last = fn-last-new;
     levels = λ d j i h. levels-new j i (grown n k (length l) j i h) (not-deep (st .deep) (isDeep k depth) d);
+    zero = zero-line n k (reading .limited) hk room f l depth rows rows′ cells (links .outside) (reading .zero);
   }
 
 -- a step behind which the tables are as they should be, and the fields have taken at most b bytes

@@ -1,6 +1,6 @@
 -- What the stores of a line do to the tables: the cells of its fields, and its row.
 -- Assumes nothing.
-use Prim.Native.Nat.{ℕ, zero, suc, _+_, _*_, _<_, _≤_}
+use Prim.Native.Nat.{ℕ, zero, suc, _+_, _*_, _-_, _<_, _≤_}
 use native.Mathlib.Omega.{arith}
 use mathlib.Core.Path.{_≡_, refl, ap, _∙_}
 use mathlib.Core.List.{List, [], _∷_}
@@ -57,6 +57,15 @@ store-before t j c x h = by (leb (j * 3 + 3) (length t))
     by true = sets-before t (j * 3) (numbers c) x h
     by false = refl
 
+-- and what stands behind it
+store-behind : (t : List ℕ) (j : ℕ) (c : Cell) (x : ℕ) → (j + 1) * 3 ≤ x → getD (store t j c) x 0 ≡ getD t x 0
+unfolding store
+store-behind t j c x h = by (leb (j * 3 + 3) (length t))
+  where
+    by : (b : Bool) → getD (cond b (sets t (j * 3) (numbers c)) t) x 0 ≡ getD t x 0
+    by true = sets-behind t (j * 3) (numbers c) x (omega arith)
+    by false = refl
+
 -- a cell that is within the table is stored
 store-in : (t : List ℕ) (j : ℕ) (c : Cell) → (j + 1) * 3 ≤ length t → store t j c ≡ sets t (j * 3) (numbers c)
 unfolding store
@@ -73,6 +82,12 @@ pub stored-before : (t : List ℕ) (j : ℕ) (l : List Cell) (x : ℕ) → x < j
 unfolding storeFrom
 stored-before t j [] x h = refl
 stored-before t j (c ∷ cs) x h = stored-before (store t j c) (j + 1) cs x (omega arith) ∙ store-before t j c x h
+
+-- and what stands behind them
+pub stored-behind : (t : List ℕ) (j : ℕ) (l : List Cell) (x : ℕ) → (j + length l) * 3 ≤ x → getD (storeFrom t j l) x 0 ≡ getD t x 0
+unfolding storeFrom
+stored-behind t j [] x h = refl
+stored-behind t j (c ∷ cs) x h = stored-behind (store t j c) (j + 1) cs x (omega arith) ∙ store-behind t j c x (omega arith)
 
 -- each number of each cell is there
 stored-at : (t : List ℕ) (j : ℕ) (l : List Cell) (a c : ℕ) → a < length l → c < 3 → (j + length l) * 3 ≤ length t
@@ -106,23 +121,25 @@ module _ (rows : List ℕ) (r f first count levels : ℕ) where
   unfolding putRow
   put-length = length-sets rows (r * 5) (f ∷ first ∷ count ∷ levels ∷ [])
 
-  -- the four numbers of every other row
-  pub put-other : (x c : ℕ) → c < 4 → (x ≡ r → ⊥) → getD (putRow rows r f first count levels) (x * 5 + c) 0 ≡ getD rows (x * 5 + c) 0
+  -- all but its own four numbers
+  pub put-outside : (x : ℕ) → ((c : ℕ) → c < 4 → x ≡ r * 5 + c → ⊥) → getD (putRow rows r f first count levels) x 0 ≡ getD rows x 0
   unfolding putRow
-  put-other x c h n = by (ltb x r) refl
+  put-outside x o = by (ltb x (r * 5)) refl (ltb x (r * 5 + 4)) refl
     where
-      by : (b : Bool) → ltb x r ≡ b → getD (sets rows (r * 5) (f ∷ first ∷ count ∷ levels ∷ [])) (x * 5 + c) 0 ≡ getD rows (x * 5 + c) 0
-      by true p = sets-before rows (r * 5) (f ∷ first ∷ count ∷ levels ∷ []) (x * 5 + c) (omega (arith, ltb-true x r p))
-      by false p = sets-behind rows (r * 5) (f ∷ first ∷ count ∷ levels ∷ []) (x * 5 + c) (omega (arith, ltb-false x r p))
+      by : (b : Bool) → ltb x (r * 5) ≡ b → (d : Bool) → ltb x (r * 5 + 4) ≡ d
+          → getD (sets rows (r * 5) (f ∷ first ∷ count ∷ levels ∷ [])) x 0 ≡ getD rows x 0
+      by true p d q = sets-before rows (r * 5) (f ∷ first ∷ count ∷ levels ∷ []) x (ltb-true x (r * 5) p)
+      by false p true q = absurd (o (x - r * 5) (omega (arith, ltb-true x (r * 5 + 4) q)) (omega (arith, ltb-false x (r * 5) p)))
+      by false p false q = sets-behind rows (r * 5) (f ∷ first ∷ count ∷ levels ∷ []) x (ltb-false x (r * 5 + 4) q)
+
+  -- so the four numbers of every other row
+  pub put-other : (x c : ℕ) → c < 4 → (x ≡ r → ⊥) → getD (putRow rows r f first count levels) (x * 5 + c) 0 ≡ getD rows (x * 5 + c) 0
+  put-other x c h n = put-outside (x * 5 + c) (λ d l e. n (omega (arith, e)))
 
   -- and every user
   pub put-user : (x : ℕ) → userIn (putRow rows r f first count levels) x ≡ userIn rows x
-  unfolding putRow userIn
-  put-user x = by (ltb x r) refl
-    where
-      by : (b : Bool) → ltb x r ≡ b → getD (sets rows (r * 5) (f ∷ first ∷ count ∷ levels ∷ [])) (x * 5 + 4) 0 ≡ getD rows (x * 5 + 4) 0
-      by true p = sets-before rows (r * 5) (f ∷ first ∷ count ∷ levels ∷ []) (x * 5 + 4) (omega (arith, ltb-true x r p))
-      by false p = sets-behind rows (r * 5) (f ∷ first ∷ count ∷ levels ∷ []) (x * 5 + 4) (omega (arith, ltb-false x r p))
+  unfolding userIn
+  put-user x = put-outside (x * 5 + 4) (λ d l e. omega (arith, e))
 
   -- a row that is within the table has the form,
   pub put-form : r * 5 + 4 ≤ length rows → formIn (putRow rows r f first count levels) r ≡ f

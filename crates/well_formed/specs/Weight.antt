@@ -85,7 +85,7 @@ unfolding weight
 weight-le = weight-grows
 
 -- a level more than some, at most 64, is more
-deeper-more : (d m : ℕ) → deeper d ≤ m → m ≤ 64 → d < m
+pub deeper-more : (d m : ℕ) → deeper d ≤ m → m ≤ 64 → d < m
 unfolding deeper
 deeper-more d m = by (ltb d 65)
   where
@@ -112,7 +112,7 @@ node-deeper f d h k = by (eqb (getD forms f no-form .key) key-node) (eq-eqb _ _ 
 
 module _ (n : Counts) (rows cells : List ℕ) (w : WellFormed n rows cells) where
   -- the row of a node is good
-  node-good : (x : ℕ) → x < n .nodes → RowGood (behind n key-node x) (n .fields) key-node (nodes-at + x) rows cells
+  pub node-good : (x : ℕ) → x < n .nodes → RowGood (behind n key-node x) (n .fields) key-node (nodes-at + x) rows cells
   unfolding baseOf countOf
   node-good x h = w .nodes x h
 
@@ -122,7 +122,7 @@ module _ (n : Counts) (rows cells : List ℕ) (w : WellFormed n rows cells) wher
   node-behind x h = behind-less n key-node x (omega arith) .nodes
 
   -- a node has a level
-  node-level : (x : ℕ) → x < n .nodes → 0 < levelsIn rows (nodes-at + x)
+  pub node-level : (x : ℕ) → x < n .nodes → 0 < levelsIn rows (nodes-at + x)
   unfolding deeper
   node-level x h = rw (node-deeper (formIn rows (nodes-at + x)) 0 (node-good x h .form) (node-good x h .key)) at (node-good x h .level)
 

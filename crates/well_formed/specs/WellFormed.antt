@@ -18,6 +18,7 @@ use Rattle.body.specs.declared.State.{State}
 use Rattle.body.specs.declared.Answer.the-variants as answer
 use Rattle.body.specs.Body.{most-bytes, rows-length, cells-length, no-rows, first, limitOf, countOf, baseOf, isDeep, Stepped, bad, next, stepOf, isAhead, firstAhead, Ended, refused, read, finishOf, proceed, linesFrom, Held, held, zeros, settle, bodyOf}
 use Rattle.well_formed.specs.Good.{WellFormed}
+use Rattle.well_formed.specs.Zeros.{ZeroBehind, zeros-behind}
 use Rattle.well_formed.specs.Reading.{Reading}
 use Rattle.well_formed.specs.Step.{GoodStep, step-good}
 
@@ -70,10 +71,10 @@ def-there : (r : ℕ) (n : Counts) (cells rows : List ℕ) → isAhead r n cells
 unfolding isAhead
 def-there r n cells rows h e = leb-false (n .defs) (valueIn cells (firstIn rows r)) (rw e at h)
 
--- an end at which the tables are well-formed, or a fault
+-- an end at which the tables are well-formed and zero past the used rows, or a fault
 abbrev Fine : Ended → Type 0
 Fine (refused x l) = Unit {0}
-Fine (read n cells rows) = WellFormed n rows cells
+Fine (read n cells rows) = WellFormed n rows cells × ZeroBehind n rows cells
 
 -- what is known behind the last line
 ending : (st : State) (cells rows : List ℕ) → Reading st cells rows → st .counts .fields * 2 ≤ most-bytes → st .key ≡ key-fn
@@ -117,7 +118,7 @@ finish-good st l cells rows r b = by (eqb (st .key) key-fn) refl (ltb ahead (st 
     by false p y q z s = tt
     by true p true q z s = tt
     by true p false q true s = tt
-    by true p false q false s = ending st cells rows r b (eqb-true (st .key) key-fn p) (ltb-false ahead (st .counts .types) q) s
+    by true p false q false s = (ending st cells rows r b (eqb-true (st .key) key-fn p) (ltb-false ahead (st .counts .types) q) s, r .zero)
 
 -- a line and those that follow
 proceed-good : (b l : ℕ) (x : Stepped) (k : State → List ℕ → List ℕ → Ended) → GoodStep b x
@@ -164,11 +165,12 @@ start-reading rows cells hr hc = record {
   ordered = λ k i k′ i′ h. absurd (omega (arith, none-counted k));
   fn-last = λ e. absurd (omega (arith, e));
   levels = λ d k i h. absurd (omega (arith, none-counted k));
+  zero = zeros-behind no-rows rows cells;
 }
 
--- where the answer is a body, the tables are well-formed
+-- where the answer is a body, the tables are well-formed and zero past the used rows
 abbrev HeldGood : Counts → Held → Type 0
-HeldGood n h = h .answer ≡ answer.Body n → WellFormed n (h .rows) (h .cells)
+HeldGood n h = h .answer ≡ answer.Body n → WellFormed n (h .rows) (h .cells) × ZeroBehind n (h .rows) (h .cells)
 
 -- the tables of an end
 settle-good : (x : Ended) (rows cells : List ℕ) (n : Counts) → Fine x → HeldGood n (settle x rows cells)
@@ -181,11 +183,10 @@ file-good : (s rows cells : List ℕ) → length s ≤ most-bytes → rows-lengt
 file-good s rows cells h hr hc =
     lines-good (partsFrom 10 0 s) 1 first (zeros cells) (zeros rows) (start-reading rows cells hr hc) (omega (arith, parts-total s))
 
--- a body that was read has well-formed tables
-pub read-well-formed : (s rows cells : List ℕ) (n : Counts) → bodyOf s rows cells .answer ≡ answer.Body n
-    → WellFormed n (bodyOf s rows cells .rows) (bodyOf s rows cells .cells)
+-- so are those of a body that was read
+read-good : (s rows cells : List ℕ) (n : Counts) → HeldGood n (bodyOf s rows cells)
 unfolding bodyOf
-read-well-formed s rows cells n = by (ltb most-bytes (length s)) refl (ltb (length rows) rows-length) refl (ltb (length cells) cells-length) refl
+read-good s rows cells n = by (ltb most-bytes (length s)) refl (ltb (length rows) rows-length) refl (ltb (length cells) cells-length) refl
   where
     whole : Ended
     whole = linesFrom (partsFrom 10 0 s) 1 first (zeros cells) (zeros rows)
@@ -198,3 +199,13 @@ read-well-formed s rows cells n = by (ltb most-bytes (length s)) refl (ltb (leng
     by false p false q false r =
         settle-good whole rows cells n
         (file-good s rows cells (ltb-false most-bytes (length s) p) (ltb-false (length rows) rows-length q) (ltb-false (length cells) cells-length r))
+
+-- a body that was read has well-formed tables
+pub read-well-formed : (s rows cells : List ℕ) (n : Counts) → bodyOf s rows cells .answer ≡ answer.Body n
+    → WellFormed n (bodyOf s rows cells .rows) (bodyOf s rows cells .cells)
+read-well-formed s rows cells n e = read-good s rows cells n e .0
+
+-- and all of them past the used rows is zero
+pub read-zero-behind : (s rows cells : List ℕ) (n : Counts) → bodyOf s rows cells .answer ≡ answer.Body n
+    → ZeroBehind n (bodyOf s rows cells .rows) (bodyOf s rows cells .cells)
+read-zero-behind s rows cells n e = read-good s rows cells n e .1
