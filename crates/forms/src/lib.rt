@@ -91,36 +91,36 @@ pub const FORM_PATH: u16 = 28;
 pub const MOST_FORMS: usize = 30;
 
 const FORMS: [Form; 30] = [
-    Form(17, 0, 0, 0, 1, 1), // type=array,E
-    Form(16, 17, 17, 17, 2, 18), // type=fun,SPAN,OUT,IN..
-    Form(20, 0, 0, 0, 1, 1), // type=inst,K
-    Form(19, 0, 0, 0, 1, 1), // type=fn,D
-    Form(18, 18, 18, 18, 1, 17), // def=OUT,IN..
-    Form(48, 48, 48, 48, 0, 64), // inst=NAME:TYPE,..
-    Form(18, 49, 49, 49, 1, 65), // bind=TYPE,NAME:DEF,..
-    Form(0, 0, 0, 0, 0, 0), // node=bool
-    Form(0, 0, 0, 0, 0, 0), // node=int
-    Form(0, 0, 0, 0, 0, 0), // node=float
-    Form(0, 0, 0, 0, 0, 0), // node=str
-    Form(64, 21, 21, 0, 3, 3), // node=bin,OP,L,R
-    Form(80, 21, 0, 0, 2, 2), // node=un,OP,E
-    Form(21, 16, 0, 0, 2, 2), // node=field,E,NAME
-    Form(21, 21, 21, 21, 0, 64), // node=list,E..
-    Form(21, 21, 0, 0, 2, 2), // node=index,THING,I
-    Form(21, 21, 0, 0, 2, 2), // node=assign,V,E
-    Form(21, 21, 0, 0, 2, 2), // node=opassign,V,E
-    Form(21, 22, 33, 0, 3, 3), // node=if,C,BLOCK,E|-
-    Form(22, 0, 0, 0, 1, 1), // node=loop,BLOCK
-    Form(0, 0, 0, 0, 0, 0), // node=break
-    Form(21, 21, 21, 21, 1, 65), // node=call,F,A..
-    Form(21, 16, 21, 21, 2, 66), // node=mcall,R,NAME,A..
-    Form(33, 0, 0, 0, 1, 1), // node=return,E|-
-    Form(33, 23, 23, 23, 1, 65), // node=block,TAIL|-,S..
-    Form(32, 33, 0, 0, 2, 2), // node=let,TYPE|-,E|-
-    Form(32, 0, 0, 0, 1, 1), // node=param,TYPE|-
-    Form(32, 21, 24, 24, 2, 18), // node=lambda,OUT|-,BODY,P..
-    Form(96, 16, 112, 112, 2, 66), // node=path,RES,RESOLVED,NAME:RES..
-    Form(18, 25, 26, 26, 2, 18), // fn=OUT,BODY,P..
+    Form(LOW_TYPE, NOTHING, NOTHING, NOTHING, 1, 1), // type=array,E
+    Form(FREE, LOW_TYPE, LOW_TYPE, LOW_TYPE, 2, 18), // type=fun,SPAN,OUT,IN..
+    Form(INST_AHEAD, NOTHING, NOTHING, NOTHING, 1, 1), // type=inst,K
+    Form(DEF_AHEAD, NOTHING, NOTHING, NOTHING, 1, 1), // type=fn,D
+    Form(TYPE, TYPE, TYPE, TYPE, 1, 17), // def=OUT,IN..
+    Form(NAMED_TYPE, NAMED_TYPE, NAMED_TYPE, NAMED_TYPE, 0, 64), // inst=NAME:TYPE,..
+    Form(TYPE, NAMED_DEF, NAMED_DEF, NAMED_DEF, 1, 65), // bind=TYPE,NAME:DEF,..
+    Form(NOTHING, NOTHING, NOTHING, NOTHING, 0, 0), // node=bool
+    Form(NOTHING, NOTHING, NOTHING, NOTHING, 0, 0), // node=int
+    Form(NOTHING, NOTHING, NOTHING, NOTHING, 0, 0), // node=float
+    Form(NOTHING, NOTHING, NOTHING, NOTHING, 0, 0), // node=str
+    Form(BIN_OP, EXPR, EXPR, NOTHING, 3, 3), // node=bin,OP,L,R
+    Form(UN_OP, EXPR, NOTHING, NOTHING, 2, 2), // node=un,OP,E
+    Form(EXPR, FREE, NOTHING, NOTHING, 2, 2), // node=field,E,NAME
+    Form(EXPR, EXPR, EXPR, EXPR, 0, 64), // node=list,E..
+    Form(EXPR, EXPR, NOTHING, NOTHING, 2, 2), // node=index,THING,I
+    Form(EXPR, EXPR, NOTHING, NOTHING, 2, 2), // node=assign,V,E
+    Form(EXPR, EXPR, NOTHING, NOTHING, 2, 2), // node=opassign,V,E
+    Form(EXPR, BLOCK, OPT_EXPR, NOTHING, 3, 3), // node=if,C,BLOCK,E|-
+    Form(BLOCK, NOTHING, NOTHING, NOTHING, 1, 1), // node=loop,BLOCK
+    Form(NOTHING, NOTHING, NOTHING, NOTHING, 0, 0), // node=break
+    Form(EXPR, EXPR, EXPR, EXPR, 1, 65), // node=call,F,A..
+    Form(EXPR, FREE, EXPR, EXPR, 2, 66), // node=mcall,R,NAME,A..
+    Form(OPT_EXPR, NOTHING, NOTHING, NOTHING, 1, 1), // node=return,E|-
+    Form(OPT_EXPR, STMT, STMT, STMT, 1, 65), // node=block,TAIL|-,S..
+    Form(OPT_TYPE, OPT_EXPR, NOTHING, NOTHING, 2, 2), // node=let,TYPE|-,E|-
+    Form(OPT_TYPE, NOTHING, NOTHING, NOTHING, 1, 1), // node=param,TYPE|-
+    Form(OPT_TYPE, EXPR, PARAM, PARAM, 2, 18), // node=lambda,OUT|-,BODY,P..
+    Form(RESOLUTION, FREE, SEGMENT, SEGMENT, 2, 66), // node=path,RES,RESOLVED,NAME:RES..
+    Form(TYPE, BODY, TYPED_PARAM, TYPED_PARAM, 2, 18), // fn=OUT,BODY,P..
 ];
 
 // What a field holds: a name; a tag, which is 0 for `-`, 1 for a number and 1 to 6 for l f c i e o; and a value.
@@ -164,7 +164,7 @@ fn type_form(w: u64) -> usize
         0x66756e => 1, // fun
         0x696e7374 => 2, // inst
         0x666e => 3, // fn
-        _ => 30,
+        _ => MOST_FORMS,
     }
 }
 
@@ -195,7 +195,7 @@ fn node_form(w: u64) -> usize
         0x706172616d => 26, // param
         0x6c616d626461 => 27, // lambda
         0x70617468 => 28, // path
-        _ => 30,
+        _ => MOST_FORMS,
     }
 }
 
@@ -210,7 +210,7 @@ fn form_index(k: u8, w: u64) -> usize
         KEY_BIND => 6,
         KEY_NODE => node_form(w),
         KEY_FN => 29,
-        _ => 30,
+        _ => MOST_FORMS,
     }
 }
 
@@ -249,10 +249,10 @@ pub fn kind_at(f: Form, i: usize) -> u8
 pub fn form_at(i: usize) -> Form
     ensures { λ r. ⌜ r ≡ formAt i ⌝ }
 {
-    if i < 30 {
+    if i < MOST_FORMS {
         return FORMS[i];
     }
-    Form(0, 0, 0, 0, 0, 0)
+    Form(NOTHING, NOTHING, NOTHING, NOTHING, 0, 0)
 }
 
 // The letter that a field is, 0 where it is no single letter.
@@ -486,7 +486,7 @@ pub fn read_line(k: u8, v: &[u8], t: &mut [u16], at: usize) -> Line
 {
     let e = lex::field_end(v, 0, 44);
     let i = form_index(k, lex::pack(&v[0..e]));
-    if 30 <= i {
+    if MOST_FORMS <= i {
         return Line::Fault(Fault::Form);
     }
     let f = form_at(i);
