@@ -9,11 +9,12 @@ use native.Mathlib.Numerals.{add-one, add-two}
 use native.Mathlib.Omega.{arith}
 use lib.Dec.{ltb}
 use lib.ListN.{length, take, drop, set, replicate, length-drop, drop-of-length-le}
-use lib.Seq.{sets, take-all, length-take-le}
+use lib.Seq.{sets, length-take-le}
 use borrow.Author.Fill.{fill-more}
 use borrow.Author.Tests.{lt-ltb, le-ltb, eq-eqb, ne-eqb}
 use Rattle.lex.specs.Text.{before, pack, partsFrom}
 use Rattle.lex.proofs.Laws.{first-part, no-part}
+use Rattle.forms.proofs.Laws.{rest}
 use Rattle.forms.specs.declared.Fault.{Fault}
 use Rattle.forms.specs.declared.Fault.the-variants as fault
 use Rattle.forms.specs.declared.Form.{Form}
@@ -75,10 +76,7 @@ advanced-fields st k m d st′ p = rw p (omega arith)
 pub width : (r : Line) (i n m : ℕ) → r ≡ line.Row i n → widthOf r ≤ m → n ≤ m
 width r i n m p h = rw p at h
 
--- the part from a on
-pub rest : (s : List ℕ) (a : ℕ) → take (length s - a) (drop a s) ≡ drop a s
-rest s a = take-all (length s - a) (drop a s) (rw (length-drop a s) (omega arith))
-
+-- the length of the part from a on
 pub rest-length : (s : List ℕ) (a : ℕ) → length (take (length s - a) (drop a s)) ≡ length s - a
 rest-length s a = ap length (rest s a) ∙ length-drop a s
 

@@ -47,7 +47,7 @@ unfolding readAs
 unary-of r c x s p q e = of-class r c 5 s p (rw e at q)
 
 -- a part to the end of a list
-rest : (s : List ℕ) (a : ℕ) → take (length s - a) (drop a s) ≡ drop a s
+pub rest : (s : List ℕ) (a : ℕ) → take (length s - a) (drop a s) ≡ drop a s
 rest s a = take-all (length s - a) (drop a s) (rw (length-drop a s) (omega arith))
 
 -- a resolution with no bytes

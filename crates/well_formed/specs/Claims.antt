@@ -12,7 +12,7 @@ use Rattle.forms.specs.declared.Fault.{Fault}
 use Rattle.forms.specs.Form.{forms, no-form, formOf, fits}
 use Rattle.forms.specs.Words as words
 use Rattle.refs.specs.declared.Counts.{Counts}
-use Rattle.refs.specs.Refs.{nodes-at, fn-at, formIn, levelsIn}
+use Rattle.refs.specs.Refs.{nodes-at, fn-at, formIn, firstIn, countIn, levelsIn, valueIn}
 use Rattle.body.specs.declared.Answer.{Answer}
 use Rattle.body.specs.declared.Answer.the-variants as answer
 use Rattle.body.specs.Body.{most-bytes, rows-length, cells-length, Held, held, zeros, bodyOf}
@@ -26,6 +26,7 @@ use Rattle.well_formed.specs.Weight.{sumTo, weight, bodyIn, paramsIn, pa
 use Rattle.well_formed.specs.Weight as trees
 use Rattle.well_formed.specs.Levels.{TypeIn, Contains, Parent, Chain, funs}
 use Rattle.well_formed.specs.Levels as levels
+use Rattle.well_formed.specs.Distinct as distinct
 
 module _ (s rows cells : List ℕ) where
   -- the answer to the file s, and what is then in the two tables lent for it
@@ -124,7 +125,7 @@ module _ (n : Counts) (rows cells : List ℕ) (w : WellFormed n rows cells) wher
   pub nodes-nested : (a : ℕ) (xs : List ℕ) → a < n .nodes → Chain (Parent rows cells) (a ∷ xs) → length (a ∷ xs) ≤ 64
   nodes-nested = levels.nodes-nested n rows cells w
 
-  -- ── 7. types, in well-formed tables; the form 0 is an array, 1 a fun ──
+  -- ── 7. types, in well-formed tables; the form 0 is an array, 1 a fun, 2 an inst, 3 a fn ──
 
   -- a type in a type has a lower row
   pub type-lower : (i j x : ℕ) → i < n .types → TypeIn rows cells i j x → x < i
@@ -145,3 +146,23 @@ module _ (n : Counts) (rows cells : List ℕ) (w : WellFormed n rows cells) wher
   -- so at most 4 of fun stand in fun, arrays between them not counted: of a list of types, each in the one before, at most 4 are a fun
   pub funs-nested : (i : ℕ) (is : List ℕ) → i < n .types → Chain (Contains rows cells) (i ∷ is) → funs rows (i ∷ is) ≤ 4
   funs-nested = levels.funs-nested n rows cells w
+
+  -- no two type rows are equal: rows of one form, one number of fields and equal values are one row,
+  pub type-once : (i j : ℕ) → i < n .types → j < n .types → formIn rows i ≡ formIn rows j → countIn rows i ≡ countIn rows j
+      → ((c : ℕ) → c < countIn rows i → valueIn cells (firstIn rows i + c) ≡ valueIn cells (firstIn rows j + c)) → i ≡ j
+  type-once = distinct.type-once n rows cells w
+
+  -- so two arrays of one element are one row,
+  pub array-once : (i j : ℕ) → i < n .types → j < n .types → formIn rows i ≡ 0 → formIn rows j ≡ 0
+      → valueIn cells (firstIn rows i) ≡ valueIn cells (firstIn rows j) → i ≡ j
+  array-once = distinct.array-once n rows cells w
+
+  -- two of inst with one K,
+  pub inst-once : (i j : ℕ) → i < n .types → j < n .types → formIn rows i ≡ 2 → formIn rows j ≡ 2
+      → valueIn cells (firstIn rows i) ≡ valueIn cells (firstIn rows j) → i ≡ j
+  inst-once = distinct.inst-once n rows cells w
+
+  -- and two of fn with one D
+  pub fn-once : (i j : ℕ) → i < n .types → j < n .types → formIn rows i ≡ 3 → formIn rows j ≡ 3
+      → valueIn cells (firstIn rows i) ≡ valueIn cells (firstIn rows j) → i ≡ j
+  fn-once = distinct.fn-once n rows cells w

@@ -9,7 +9,7 @@ use lib.Dec.{ltb, eqb}
 use lib.ListN.{length, getD}
 use Rattle.forms.specs.Form.{forms, no-form, formAt, kindAt, key-type, key-def, key-inst, key-bind, key-node, key-fn}
 use Rattle.refs.specs.declared.Counts.{Counts}
-use Rattle.refs.specs.Refs.{nodes-at, fn-at, fixed-types, diverges, formIn, firstIn, countIn, levelsIn, userIn, tagIn, valueIn, a-type, a-def, a-res, refersTo, isChild, isExpr, stands, levelsOf}
+use Rattle.refs.specs.Refs.{nodes-at, fn-at, fixed-types, diverges, formIn, firstIn, countIn, levelsIn, userIn, tagIn, valueIn, a-type, a-def, a-res, refersTo, isChild, isExpr, stands, levelsOf, isSame}
 use Rattle.body.specs.Body.{countOf, baseOf, levelsOver, rows-length, cells-length}
 
 -- a tag and a value that a field written in the way c can have: a number; a number or `-`; NAME:NUMBER; an operator; RES; NAME:RES
@@ -94,8 +94,12 @@ Ordered n rows = (k i k′ i′ : ℕ) → i < countOf n k → i′ < countOf n 
 abbrev pub FnLast : Counts → List ℕ → Type 0
 FnLast n rows = (k i : ℕ) → i < countOf n k → firstIn rows (baseOf k + i) + countIn rows (baseOf k + i) ≤ firstIn rows fn-at
 
--- the tables of a body: long enough; counts within limits; each row good; `fn` good; the fields in the order of the rows; K and D of types
--- there; at most 4 levels of fun and 64 of nodes
+-- no type row has the form and the values of a later one
+abbrev pub Distinct : Counts → List ℕ → List ℕ → Type 0
+Distinct n rows cells = (i j : ℕ) → i < j → j < n .types → isSame rows cells i (formIn rows j) (firstIn rows j) (countIn rows j) ≡ false
+
+-- the tables of a body: long enough; counts within limits; each row good; `fn` good; the fields in the order of the rows; no two type rows
+-- equal; K and D of types there; at most 4 levels of fun and 64 of nodes
 pub record WellFormed (n : Counts) (rows cells : List ℕ) : Type 0 where
   pub rows-long : rows-length ≤ length rows
   pub cells-long : cells-length ≤ length cells
@@ -108,6 +112,7 @@ pub record WellFormed (n : Counts) (rows cells : List ℕ) : Type 0 where
   pub fn : RowGood n (n .fields) key-fn fn-at rows cells
   pub ordered : Ordered n rows
   pub fn-last : FnLast n rows
+  pub distinct : Distinct n rows cells
   pub insts-there : (i : ℕ) → i < n .types → formIn rows i ≡ 2 → valueIn cells (firstIn rows i) < n .insts
   pub defs-there : (i : ℕ) → i < n .types → formIn rows i ≡ 3 → valueIn cells (firstIn rows i) < n .defs
   pub nesting : (i : ℕ) → i < n .types → levelsIn rows i ≤ 4

@@ -62,7 +62,7 @@ low-type n k j rows cells e g =
 
 module _ (n : Counts) (rows cells : List ℕ) (w : WellFormed n rows cells) where
   -- the row of a type is good
-  type-good : (i : ℕ) → i < n .types → RowGood (behind n key-type i) (n .fields) key-type i rows cells
+  pub type-good : (i : ℕ) → i < n .types → RowGood (behind n key-type i) (n .fields) key-type i rows cells
   unfolding baseOf countOf
   type-good i h = rw (zero-add i) at (w .types i h)
 

@@ -5,6 +5,7 @@ pub mod Linked
 pub mod Stored
 pub mod Counting
 pub mod Zeros
+pub mod Repeats
 pub mod Frame
 pub mod Reading
 pub mod Step
@@ -13,4 +14,5 @@ pub mod Answers
 pub mod UsedOnce
 pub mod Weight
 pub mod Levels
+pub mod Distinct
 pub mod Claims

@@ -14,13 +14,13 @@ use Rattle.refs.specs.declared.Counts.{Counts}
 use Rattle.refs.specs.Refs.{nodes-at, fn-at, form-param, formIn, firstIn, countIn, levelsIn, userIn, tagIn, valueIn}
 use Rattle.body.specs.declared.State.{State}
 use Rattle.body.specs.Body.{limitOf, countOf, baseOf, counted, isDeep, rows-length, cells-length}
-use Rattle.well_formed.specs.Good.{behind, RowGood, RowsGood, Ordered, FnLast}
+use Rattle.well_formed.specs.Good.{behind, RowGood, RowsGood, Ordered, FnLast, Distinct}
 use Rattle.well_formed.specs.Counting.{counted-within, counted-fields, behind-within, behind-less, rows-apart}
 use Rattle.well_formed.specs.Zeros.{ZeroBehind}
 use Rattle.well_formed.specs.Frame.{Frame, frame-less, row-framed}
 
 -- the tables behind some lines: long enough, the counts within the limits, no row of a key behind the state's, each row good, the fields in
--- the order of the rows, no row too deep unless the state says so, and zero past the used rows
+-- the order of the rows, no two type rows equal, no row too deep unless the state says so, and zero past the used rows
 pub record Reading (st : State) (cells rows : List ℕ) : Type 0 where
   pub rows-long : rows-length ≤ length rows
   pub cells-long : cells-length ≤ length cells
@@ -30,6 +30,7 @@ pub record Reading (st : State) (cells rows : List ℕ) : Type 0 where
   pub fn : st .key ≡ key-fn → RowGood (st .counts) (st .counts .fields) key-fn fn-at rows cells
   pub ordered : Ordered (st .counts) rows
   pub fn-last : st .key ≡ key-fn → FnLast (st .counts) rows
+  pub distinct : Distinct (st .counts) rows cells
   pub levels : st .deep ≡ false → (k i : ℕ) → i < countOf (st .counts) k → isDeep k (levelsIn rows (baseOf k + i)) ≡ false
   pub zero : ZeroBehind (st .counts) rows cells
 
@@ -95,7 +96,7 @@ node-param n rows cells g x h e = param-first (behind n key-node x) (n .fields) 
 
 module _ (n : Counts) (k : ℕ) (limited : (j : ℕ) → countOf n j ≤ limitOf j) (hk : k < 6) (room : countOf n k < limitOf k) where
   -- a type that stands is not there,
-  type-apart : (x : ℕ) → x < n .types → x ≡ baseOf k + countOf n k → ⊥
+  pub type-apart : (x : ℕ) → x < n .types → x ≡ baseOf k + countOf n k → ⊥
   unfolding baseOf countOf
   type-apart x h e = next-apart n key-type k x limited hk room h (zero-add x ∙ e)
 

@@ -12,10 +12,10 @@ use lib.ListN.{length, take, drop, length-drop}
 use borrow.Author.Tests.{ltb-true, ltb-false, leb-true}
 use Rattle.forms.specs.declared.Cell.{Cell}
 use Rattle.forms.specs.declared.Fault.the-variants as fault
-use Rattle.forms.specs.Form.{key-fn, keyOf, formAt, kindAt, Parsed, wrong, parsed, parseLine, lay, storeFrom}
+use Rattle.forms.specs.Form.{key-type, key-fn, keyOf, formAt, kindAt, Parsed, wrong, parsed, parseLine, lay, storeFrom}
 use Rattle.lex.specs.Text.{before}
 use Rattle.refs.specs.declared.Counts.{Counts}
-use Rattle.refs.specs.Refs.{nodes-at, fn-at, firstIn, countIn, levelsIn, tagIn, valueIn, Linked, unlinked, linked, refsFrom}
+use Rattle.refs.specs.Refs.{nodes-at, fn-at, formIn, firstIn, countIn, levelsIn, tagIn, valueIn, Linked, unlinked, linked, refsFrom, isSame}
 use Rattle.body.specs.declared.State.{State}
 use Rattle.body.specs.Body.{most-bytes, inOrder, limitOf, countOf, baseOf, counted, deeper, levelsOver, isDeep, advance, putRow, repeats, Stepped, bad, next, placed, judged, valued, stepOf}
 use Rattle.well_formed.specs.Good.{writtenAs, behind, RowGood, Before, FnLast}
@@ -24,8 +24,9 @@ use Rattle.well_formed.specs.Linked.{LinkedGood, linked-good}
 use Rattle.well_formed.specs.Stored.{stored-length, stored-before, stored-tag, stored-value, put-length, put-other, put-user, put-form, put-first, put-count, put-levels}
 use Rattle.well_formed.specs.Counting.{counted-fields, behind-new, behind-new-nodes, grown, counted-limited, rows-inside}
 use Rattle.well_formed.specs.Zeros.{zero-line}
+use Rattle.well_formed.specs.Repeats.{none-same, same-kept}
 use Rattle.well_formed.specs.Frame.{Frame, LineGood, levels-framed, line-framed, row-of}
-use Rattle.well_formed.specs.Reading.{Reading, RowsKept, counted-key, next-apart, kept-first, kept-count, kept-levels, next-frame, rows-stay}
+use Rattle.well_formed.specs.Reading.{Reading, RowsKept, counted-key, next-apart, type-apart, kept-form, kept-first, kept-count, kept-levels, next-frame, rows-stay}
 
 -- a level more of no fewer levels is no less
 deeper-le : (a b : ℕ) → a ≤ b → deeper a ≤ deeper b
@@ -109,6 +110,7 @@ value-before t j l x h = stored-before t j l (x * 3 + 2) (omega arith)
 
 module _ (st : State) (k f : ℕ) (v : List ℕ) (l : List Cell) (cells rows : List ℕ) (e : ℕ) (rows′ : List ℕ) (reading : Reading st cells rows) (hk : k < 6) (later : st .key ≤ k)
     (room : countOf (st .counts) k < limitOf k) (good : ParsedGood k v f l)
+    (fresh : repeats k f (length l) (st .counts) (storeFrom cells (st .counts .fields) l) rows ≡ false)
     (links : LinkedGood (length l) (st .counts) (formAt f) 0 (st .counts .fields) (storeFrom cells (st .counts .fields) l) 0 rows e rows′) where
   -- the counts before the line
   abbrev n : Counts
@@ -221,6 +223,63 @@ module _ (st : State) (k f : ℕ) (v : List ℕ) (l : List Cell) (cells rows : L
       by (inl p) = omega (arith, end-before j i p, ap (firstIn put) (fn-place q))
       by (inr p) = absurd (omega (arith, counted-key n′ j i h, p .0))
 
+  -- the form of a type that stood stays,
+  type-form : (i : ℕ) → i < n .types → formIn put i ≡ formIn rows i
+  type-form i h = kept-form place rows put rows-kept i (type-apart n k (reading .limited) hk room i h)
+
+  -- its first field,
+  type-first : (i : ℕ) → i < n .types → firstIn put i ≡ firstIn rows i
+  type-first i h = kept-first place rows put rows-kept i (type-apart n k (reading .limited) hk room i h)
+
+  -- and the number of its fields,
+  type-count : (i : ℕ) → i < n .types → countIn put i ≡ countIn rows i
+  type-count i h = kept-count place rows put rows-kept i (type-apart n k (reading .limited) hk room i h)
+
+  -- which end before the line's
+  type-inside : (i : ℕ) → i < n .types → firstIn rows i + countIn rows i ≤ n .fields
+  unfolding baseOf countOf
+  type-inside i h = rw (zero-add i) at (reading .good key-type i h .inside)
+
+  -- two types that stood stay apart
+  distinct-old : (i j : ℕ) → i < j → j < n .types → isSame put stored i (formIn put j) (firstIn put j) (countIn put j) ≡ false
+  distinct-old i j h b =
+      rw (type-form j b, type-first j b, type-count j b)
+      (same-kept (n .fields) cells stored (value-before cells (n .fields) l) rows put i (formIn rows j) (firstIn rows j) (countIn rows j)
+      (type-form i (omega arith)) (type-first i (omega arith)) (type-count i (omega arith)) (type-inside i (omega arith)) (type-inside j b)
+      ∙ reading .distinct i j h b)
+
+  -- no type that stood is the same as the line
+  fresh-same : (i : ℕ) → k ≡ key-type → i < n .types → isSame rows stored i f (n .fields) (length l) ≡ false
+  unfolding repeats
+  fresh-same i q h = rw (zero-add i) at (none-same (n .types) 0 rows stored f (n .fields) (length l) i (rw q at fresh) h)
+
+  -- the row of a line of a type
+  type-place : k ≡ key-type → n .types ≡ place
+  unfolding baseOf countOf
+  type-place q = rw q (sym (zero-add (n .types)))
+
+  -- a type that stood is not equal to the line's row
+  distinct-line : (i : ℕ) → k ≡ key-type → i < n .types → isSame put stored i (formIn put place) (firstIn put place) (countIn put place) ≡ false
+  distinct-line i q h =
+      rw (
+        put-form rows′ place f (n .fields) (length l) depth put-inside,
+        put-first rows′ place f (n .fields) (length l) depth put-inside,
+        put-count rows′ place f (n .fields) (length l) depth put-inside,
+      )
+      (same-kept (n .fields + length l) stored stored (λ j b. refl) rows put i f (n .fields) (length l)
+      (type-form i h) (type-first i h) (type-count i h) (omega (arith, type-inside i h)) (omega arith) ∙ fresh-same i q h)
+
+  -- no two type rows behind the line are equal
+  distinct-new : (i j : ℕ) → i < j → (j < n .types) ⊎ ((key-type ≡ k) × (j ≡ n .types))
+      → isSame put stored i (formIn put j) (firstIn put j) (countIn put j) ≡ false
+  distinct-new i j h (inl b) = distinct-old i j h b
+  distinct-new i j h (inr q) = rw (q .1 ∙ type-place (sym (q .0))) (distinct-line i (sym (q .0)) (omega (arith, q .1)))
+
+  -- a type behind the line stood before it or is the line's
+  type-grown : (j : ℕ) → j < n′ .types → (j < n .types) ⊎ ((key-type ≡ k) × (j ≡ n .types))
+  unfolding countOf
+  type-grown = grown n k (length l) key-type
+
   -- what is known of the tables holds behind the line
   placed-reading : Reading (advance st k (length l) depth) stored put
   unfolding advance
@@ -233,6 +292,7 @@ module _ (st : State) (k f : ℕ) (v : List ℕ) (l : List Cell) (cells rows : L
     fn = λ q. fn-row n k (length l) put stored q row-new;
     ordered = λ j i j′ i′ h h′. ordered-new j i j′ i′ (grown n k (length l) j i h) (grown n k (length l) j′ i′ h′);
     fn-last = fn-last-new;
+    distinct = λ i j h b. distinct-new i j h (type-grown j b);
     levels = λ d j i h. levels-new j i (grown n k (length l) j i h) (not-deep (st .deep) (isDeep k depth) d);
     zero = zero-line n k (reading .limited) hk room f l depth rows rows′ cells (links .outside) (reading .zero);
   }
@@ -269,7 +329,7 @@ judged-good : (st : State) (k f : ℕ) (v : List ℕ) (l : List Cell) (cells row
     → GoodStep b (judged st k f (length l) (storeFrom cells (st .counts .fields) l) rows)
 unfolding judged placed
 judged-good st k f v l cells rows b reading hk later good wide fits =
-    by (ltb (countOf (st .counts) k) (limitOf k)) refl (repeats k f (length l) (st .counts) stored rows)
+    by (ltb (countOf (st .counts) k) (limitOf k)) refl (repeats k f (length l) (st .counts) stored rows) refl
     (refsFrom (length l) (st .counts) (formAt f) 0 (st .counts .fields) stored 0 rows) refl
   where
     stored : List ℕ
@@ -278,13 +338,14 @@ judged-good st k f v l cells rows b reading hk later good wide fits =
     written : (a : ℕ) → a < length l → writtenAs (kindAt (formAt f) (0 + a) / 16) (tagIn stored (st .counts .fields + a)) (valueIn stored (st .counts .fields + a)) ≡ true
     written a h = rw (zero-add a, stored-tag cells (st .counts .fields) l a h wide, stored-value cells (st .counts .fields) l a h wide) (good .written a h)
 
-    by : (c : Bool) → ltb (countOf (st .counts) k) (limitOf k) ≡ c → (d : Bool) (r : Linked) → refsFrom (length l) (st .counts) (formAt f) 0 (st .counts .fields) stored 0 rows ≡ r
+    by : (c : Bool) → ltb (countOf (st .counts) k) (limitOf k) ≡ c → (d : Bool) → repeats k f (length l) (st .counts) stored rows ≡ d
+        → (r : Linked) → refsFrom (length l) (st .counts) (formAt f) 0 (st .counts .fields) stored 0 rows ≡ r
         → GoodStep b (cond c (cond d (bad fault.Reference) (placed st k f (length l) stored r)) (bad fault.Limit))
-    by false p d r q = tt
-    by true p true r q = tt
-    by true p false unlinked q = tt
-    by true p false (linked e rows′) q = (
-      placed-reading st k f v l cells rows e rows′ reading hk later (ltb-true (countOf (st .counts) k) (limitOf k) p) good
+    by false p d u r q = tt
+    by true p true u r q = tt
+    by true p false u unlinked q = tt
+    by true p false u (linked e rows′) q = (
+      placed-reading st k f v l cells rows e rows′ reading hk later (ltb-true (countOf (st .counts) k) (limitOf k) p) good u
           (linked-good (length l) (st .counts) (formAt f) 0 (st .counts .fields) stored 0 rows e rows′ (nodes-inside st cells rows reading) written q),
       fields-advance st k (length l) (levelsOver f e) b fits,
     )

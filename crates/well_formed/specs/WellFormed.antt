@@ -99,6 +99,7 @@ ending st cells rows r b k a d = record {
   fn = r .fn k;
   ordered = r .ordered;
   fn-last = r .fn-last k;
+  distinct = r .distinct;
   insts-there = λ i h. inst-there i (st .counts) cells rows (rw (zero-add i) at (none-ahead (st .counts .types) 0 (st .counts) cells rows i (omega arith) h));
   defs-there = λ i h. def-there i (st .counts) cells rows (rw (zero-add i) at (none-ahead (st .counts .types) 0 (st .counts) cells rows i (omega arith) h));
   nesting = λ i h. ltb-false 4 (levelsIn rows i) (rw (zero-add i) at (r .levels d key-type i h));
@@ -164,6 +165,7 @@ start-reading rows cells hr hc = record {
   fn = λ e. absurd (omega (arith, e));
   ordered = λ k i k′ i′ h. absurd (omega (arith, none-counted k));
   fn-last = λ e. absurd (omega (arith, e));
+  distinct = λ i j h l. absurd (omega arith);
   levels = λ d k i h. absurd (omega (arith, none-counted k));
   zero = zeros-behind no-rows rows cells;
 }
