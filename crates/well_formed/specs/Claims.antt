@@ -1,6 +1,7 @@
 -- What the reader claims, one citation each: first of `read_body`, then of well-formed tables. Each assumption is an argument of the statement.
 -- The contract of `read_body` in crate `body` cites the definition bodyOf there. The claims are stated with `WellFormed` of Good, `ZeroBehind` of Zeros,
--- `ChildAt` of UsedOnce, `weight` and `sumTo` of Weight, and `TypeIn`, `Contains`, `Parent`, `Chain` and `funs` of Levels.
+-- `ChildAt` of UsedOnce, `weight` and `sumTo` of Weight, `TypeIn`, `Contains`, `Parent`, `Chain` and `funs` of Levels, `behindFile` and `Leaves`
+-- of Behind, and `TooDeep` of TooDeep.
 use Prim.Native.Nat.{ℕ, _+_, _<_, _≤_}
 use mathlib.Core.Path.{_≡_}
 use mathlib.Core.Logic.{_⊎_, _↔_}
@@ -9,6 +10,7 @@ use mathlib.Core.Bool.{true}
 use lib.ListN.{length, getD, take}
 use Rattle.lex.specs.Text.{before}
 use Rattle.forms.specs.declared.Fault.{Fault}
+use Rattle.forms.specs.declared.Fault.the-variants as fault
 use Rattle.forms.specs.Form.{forms, no-form, formOf, fits}
 use Rattle.forms.specs.Words as words
 use Rattle.refs.specs.declared.Counts.{Counts}
@@ -27,6 +29,10 @@ use Rattle.well_formed.specs.Weight as trees
 use Rattle.well_formed.specs.Levels.{TypeIn, Contains, Parent, Chain, funs}
 use Rattle.well_formed.specs.Levels as levels
 use Rattle.well_formed.specs.Distinct as distinct
+use Rattle.well_formed.specs.Behind.{behindFile, Leaves}
+use Rattle.well_formed.specs.Behind as tables
+use Rattle.well_formed.specs.TooDeep.{TooDeep}
+use Rattle.well_formed.specs.TooDeep as deep
 
 module _ (s rows cells : List ℕ) where
   -- the answer to the file s, and what is then in the two tables lent for it
@@ -64,16 +70,25 @@ module _ (s rows cells : List ℕ) where
   pub zero-on-3-to-6 : (x : Fault) (l : ℕ) → result .answer ≡ answer.Refused x l → (result .rows ≡ zeros rows) × (result .cells ≡ zeros cells)
   zero-on-3-to-6 = answers.refused-zero s rows cells
 
+  -- 6 only if no line is faulty and, in the tables behind the last line, before they are cleared, there are 65 nodes, each a child of the one before, or
+  -- types, each in the one before, of which 5 are a fun
+  pub only-when-6 : (l : ℕ) → result .answer ≡ answer.Refused fault.Levels l → TooDeep (behindFile s rows cells)
+  only-when-6 = deep.only-deep s rows cells
+
   -- ── 4. the answer 0, with the counts n ──
 
   -- the tables are well-formed: counts within the limits, each row of a form of its key, each number that refers to a row to one that is there and may
-  -- stand there, levels within the limits
+  -- stand there, no two type rows equal, levels within the limits
   pub well-formed-on-0 : (n : Counts) → result .answer ≡ answer.Body n → WellFormed n (result .rows) (result .cells)
   well-formed-on-0 = body.read-well-formed s rows cells
 
   -- all of a table past its used rows is zero
   pub zero-behind-on-0 : (n : Counts) → result .answer ≡ answer.Body n → ZeroBehind n (result .rows) (result .cells)
   zero-behind-on-0 = body.read-zero-behind s rows cells
+
+  -- the tables are those behind the last line
+  pub tables-on-0 : (n : Counts) → result .answer ≡ answer.Body n → Leaves n (result .rows) (result .cells) (behindFile s rows cells)
+  tables-on-0 = tables.read-left s rows cells
 
 -- ── 5. the forms of lines ──
 

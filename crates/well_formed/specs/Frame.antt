@@ -3,6 +3,7 @@
 use Prim.Native.Nat.{ℕ, zero, suc, _+_, _/_, _-_, _<_, _≤_}
 use native.Mathlib.Omega.{arith}
 use mathlib.Core.Path.{_≡_, refl, sym, ap, _∙_}
+use mathlib.Core.Logic.{inl, inr}
 use mathlib.Core.List.{List, [], _∷_}
 use mathlib.Core.Bool.{Bool, true, false, cond, false≢true}
 use lib.Dec.{leb, eqb}
@@ -13,7 +14,7 @@ use Rattle.forms.specs.Form.{LineForm, forms, no-form, formAt, kindAt, key-fn, 
 use Rattle.refs.specs.declared.Counts.{Counts}
 use Rattle.refs.specs.Refs.{nodes-at, fixed-types, form-param, formIn, firstIn, countIn, levelsIn, userIn, tagIn, valueIn, refersTo, isChild, levelsOf}
 use Rattle.body.specs.Body.{levelsOver}
-use Rattle.well_formed.specs.Good.{writtenAs, FieldGood, RowGood}
+use Rattle.well_formed.specs.Good.{writtenAs, FieldGood, Attained, RowGood}
 use Rattle.well_formed.specs.Counting.{Within}
 use Rattle.well_formed.specs.Kept.{field-kept}
 
@@ -41,9 +42,13 @@ frame-less n n′ m rows cells rows′ cells′ w f = record {
   values = f .values;
 }
 
+-- none of the kinds of a form passes the test p
+unfoldable pub without : (ℕ → Bool) → Form → Bool
+without p f = cond (p (f .0)) false (cond (p (f .1)) false (cond (p (f .2)) false (cond (p (f .3)) false true)))
+
 -- none of the kinds of a form is Body
 noBody : Form → Bool
-noBody f = cond (eqb (f .0) Body) false (cond (eqb (f .1) Body) false (cond (eqb (f .2) Body) false (cond (eqb (f .3) Body) false true)))
+noBody f = without (λ (k : ℕ). eqb k Body) f
 
 -- each form of a list is of the key `fn`, or none of its kinds is Body
 bodyless : List LineForm → Bool
@@ -55,26 +60,31 @@ refusing : (b c : Bool) → cond b false c ≡ true → (b ≡ false) × (c ≡ 
 refusing true c e = absurd (false≢true e)
 refusing false c e = (refl, e)
 
--- no field of such a form is of the kind Body
-no-body : (f : Form) (i : ℕ) → noBody f ≡ true → kindAt f i ≡ Body → ⊥
-unfolding noBody kindAt
-no-body f i e =
-    let a : (eqb (f .0) Body ≡ false) × _ = refusing (eqb (f .0) Body) _ e in
-    let b : (eqb (f .1) Body ≡ false) × _ = refusing (eqb (f .1) Body) _ (a .1) in
-    let c : (eqb (f .2) Body ≡ false) × _ = refusing (eqb (f .2) Body) _ (b .1) in
-    let d : (eqb (f .3) Body ≡ false) × _ = refusing (eqb (f .3) Body) _ (c .1) in
-    by (eqb i 0) (eqb i 1) (eqb i 2) (eqb-false (f .0) Body (a .0)) (eqb-false (f .1) Body (b .0)) (eqb-false (f .2) Body (c .0)) (eqb-false (f .3) Body (d .0))
+-- no field of such a form is of a kind that passes
+pub without-kind : (p : ℕ → Bool) (f : Form) (i : ℕ) → without p f ≡ true → p (kindAt f i) ≡ false
+unfolding without kindAt
+without-kind p f i e =
+    let a : (p (f .0) ≡ false) × _ = refusing (p (f .0)) _ e in
+    let b : (p (f .1) ≡ false) × _ = refusing (p (f .1)) _ (a .1) in
+    let c : (p (f .2) ≡ false) × _ = refusing (p (f .2)) _ (b .1) in
+    let d : (p (f .3) ≡ false) × _ = refusing (p (f .3)) _ (c .1) in
+    by (eqb i 0) (eqb i 1) (eqb i 2) (a .0) (b .0) (c .0) (d .0)
   where
-    by : (x y z : Bool) → (f .0 ≡ Body → ⊥) → (f .1 ≡ Body → ⊥) → (f .2 ≡ Body → ⊥) → (f .3 ≡ Body → ⊥)
-        → cond x (f .0) (cond y (f .1) (cond z (f .2) (f .3))) ≡ Body → ⊥
+    by : (x y z : Bool) → p (f .0) ≡ false → p (f .1) ≡ false → p (f .2) ≡ false → p (f .3) ≡ false
+        → p (cond x (f .0) (cond y (f .1) (cond z (f .2) (f .3)))) ≡ false
     by true y z a b c d = a
     by false true z a b c d = b
     by false false true a b c d = c
     by false false false a b c d = d
 
+-- no field of a form without Body is of that kind
+no-body : (f : Form) (i : ℕ) → noBody f ≡ true → kindAt f i ≡ Body → ⊥
+unfolding noBody
+no-body f i e = eqb-false (kindAt f i) Body (without-kind (λ (k : ℕ). eqb k Body) f i e)
+
 -- of such forms only that of `fn` has a field of the kind Body
 body-among : (fs : List LineForm) (f i : ℕ) → bodyless fs ≡ true → kindAt (getD fs f no-form .fields) i ≡ Body → getD fs f no-form .key ≡ key-fn
-unfolding bodyless noBody
+unfolding bodyless noBody without
 body-among [] f i e q = absurd (no-body (no-form .fields) i refl q)
 body-among (g ∷ gs) f i e q = by f (eqb (g .key) key-fn) refl (noBody (g .fields)) refl e q (λ f. body-among gs f i)
   where
@@ -91,7 +101,7 @@ body-among (g ∷ gs) f i e q = by f (eqb (g .key) key-fn) refl (noBody (g .fiel
 
 -- only `fn` has a field of the kind Body
 body-kind : (f i : ℕ) → kindAt (formAt f) i ≡ Body → getD forms f no-form .key ≡ key-fn
-unfolding formAt forms bodyless noBody
+unfolding formAt forms bodyless noBody without
 body-kind f i e = body-among forms f i refl e
 
 -- a field that is good stays so
@@ -139,6 +149,7 @@ pub record LineGood (n : Counts) (m k f a c d : ℕ) (rows cells : List ℕ) : T
   pub fields : (i : ℕ) → i < c → FieldGood n (kindAt (formAt f) i) (a + i) rows cells
   pub level : levelsOver f 0 ≤ d
   pub levels : (i : ℕ) → i < c → levelsOver f (levelsOf (kindAt (formAt f) i) (tagIn cells (a + i)) (valueIn cells (a + i)) rows) ≤ d
+  pub attained : Attained f a c d rows cells
 
 -- the line of a good row
 line-of : (n : Counts) (m k r : ℕ) (rows cells : List ℕ) → RowGood n m k r rows cells
@@ -152,6 +163,7 @@ line-of n m k r rows cells g = record {
   fields = g .fields;
   level = g .level;
   levels = g .levels;
+  attained = g .attained;
 }
 
 -- the row of a good line
@@ -166,7 +178,25 @@ row-of n m k r f a c d rows cells g ef ea ec ed = record {
   fields = λ i h. rw (ef, ea) (g .fields i (rw ec at h));
   level = rw (ef, ed) (g .level);
   levels = λ i h. rw (ef, ea, ed) (g .levels i (rw ec at h));
+  attained = rw (ef, ea, ec, ed) (g .attained);
 }
+
+-- levels that are those over a part stay so while the levels of each part do
+attained-kept : (f a c d : ℕ) (rows cells rows′ cells′ : List ℕ)
+    → ((i : ℕ) → i < c → levelsOf (kindAt (formAt f) i) (tagIn cells′ (a + i)) (valueIn cells′ (a + i)) rows′
+    ≡ levelsOf (kindAt (formAt f) i) (tagIn cells (a + i)) (valueIn cells (a + i)) rows)
+    → Attained f a c d rows cells → Attained f a c d rows′ cells′
+attained-kept f a c d rows cells rows′ cells′ h (inl e) = inl e
+attained-kept f a c d rows cells rows′ cells′ h (inr (i, b, e)) = inr (i, b, e ∙ ap (levelsOver f) (sym (h i b)))
+
+-- the levels of each part of a good line stay
+parts-framed : (n : Counts) (m k f a c d : ℕ) (rows cells rows′ cells′ : List ℕ) → Frame n m rows cells rows′ cells′ → LineGood n m k f a c d rows cells
+    → (i : ℕ) → i < c → levelsOf (kindAt (formAt f) i) (tagIn cells′ (a + i)) (valueIn cells′ (a + i)) rows′
+    ≡ levelsOf (kindAt (formAt f) i) (tagIn cells (a + i)) (valueIn cells (a + i)) rows
+parts-framed n m k f a c d rows cells rows′ cells′ fr g i h =
+    let within : a + i < m = omega (arith, g .inside) in
+    rw (fr .tags (a + i) within, fr .values (a + i) within)
+    (levels-framed n (kindAt (formAt f) i) (a + i) rows rows rows′ cells (g .fields i h) (fr .type-levels) (fr .levels))
 
 -- a line that is good stays so
 pub line-framed : (n n′ : Counts) (m m′ k f a c d : ℕ) (rows cells rows′ cells′ : List ℕ) → Frame n m rows cells rows′ cells′ → Within n n′
@@ -180,10 +210,8 @@ line-framed n n′ m m′ k f a c d rows cells rows′ cells′ fr w b l g = rec
   fields = λ i h.
       field-framed n n′ (kindAt (formAt f) i) (a + i) m rows cells rows′ cells′ fr w (λ e. b (sym (g .key) ∙ body-kind f i e)) (omega (arith, g .inside)) (g .fields i h);
   level = g .level;
-  levels = λ i h.
-      let within : a + i < m = omega (arith, g .inside) in
-      rw (fr .tags (a + i) within, fr .values (a + i) within, levels-framed n (kindAt (formAt f) i) (a + i) rows rows rows′ cells (g .fields i h) (fr .type-levels) (fr .levels))
-      (g .levels i h);
+  levels = λ i h. rw (parts-framed n m k f a c d rows cells rows′ cells′ fr g i h) (g .levels i h);
+  attained = attained-kept f a c d rows cells rows′ cells′ (parts-framed n m k f a c d rows cells rows′ cells′ fr g) (g .attained);
 }
 
 -- a row that is good stays so

@@ -45,8 +45,13 @@ pub record FieldGood (n : Counts) (k j : ℕ) (rows cells : List ℕ) : Type 0 w
 abbrev pub kindIn : List ℕ → ℕ → ℕ → ℕ
 kindIn rows r i = kindAt (formAt (formIn rows r)) i
 
--- the row r of a line of the key k that was read behind n: a form of its key, its fields among the first m, their numbers good, and at least
--- the levels of its form and more than those of its parts where it is a level of its own
+-- the levels d of a line of the form f, whose c fields stand from a on, are those of its form alone or those over one of its parts
+abbrev pub Attained : ℕ → ℕ → ℕ → ℕ → List ℕ → List ℕ → Type 0
+Attained f a c d rows cells =
+    (d ≡ levelsOver f 0) ⊎ ((i : ℕ) × (i < c) × (d ≡ levelsOver f (levelsOf (kindAt (formAt f) i) (tagIn cells (a + i)) (valueIn cells (a + i)) rows)))
+
+-- the row r of a line of the key k that was read behind n: a form of its key, its fields among the first m, their numbers good, at least
+-- the levels of its form and more than those of its parts where it is a level of its own, and no more than these give
 pub record RowGood (n : Counts) (m k r : ℕ) (rows cells : List ℕ) : Type 0 where
   pub form : formIn rows r < 30
   pub key : getD forms (formIn rows r) no-form .key ≡ k
@@ -56,6 +61,7 @@ pub record RowGood (n : Counts) (m k r : ℕ) (rows cells : List ℕ) : Type 0 w
   pub fields : (i : ℕ) → i < countIn rows r → FieldGood n (kindIn rows r i) (firstIn rows r + i) rows cells
   pub level : levelsOver (formIn rows r) 0 ≤ levelsIn rows r
   pub levels : (i : ℕ) → i < countIn rows r → levelsOver (formIn rows r) (levelsOf (kindIn rows r i) (tagIn cells (firstIn rows r + i)) (valueIn cells (firstIn rows r + i)) rows) ≤ levelsIn rows r
+  pub attained : Attained (formIn rows r) (firstIn rows r) (countIn rows r) (levelsIn rows r) rows cells
 
 -- what stood before the row of the number i of the key k: of its own key i rows, of the others all
 unfoldable pub behind : Counts → ℕ → ℕ → Counts

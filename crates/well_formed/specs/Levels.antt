@@ -54,7 +54,7 @@ over-le f d m h b = by (eqb f 1) (ltb f 7) (ltb 28 f) h
     by false false false h = omega (arith, deeper-more d m h b)
 
 -- the value of a good field that is a type in a type
-low-type : (n : Counts) (k j : ℕ) (rows cells : List ℕ) → k ≡ LowType → FieldGood n k j rows cells → valueIn cells j < n .types + fixed-types
+pub low-type : (n : Counts) (k j : ℕ) (rows cells : List ℕ) → k ≡ LowType → FieldGood n k j rows cells → valueIn cells j < n .types + fixed-types
 unfolding refersTo writtenAs
 low-type n k j rows cells e g =
     let tag : tagIn cells j ≡ 1 = eqb-true (tagIn cells j) 1 (rw e at (g .written)) in

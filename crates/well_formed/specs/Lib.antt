@@ -15,4 +15,6 @@ pub mod UsedOnce
 pub mod Weight
 pub mod Levels
 pub mod Distinct
+pub mod Behind
+pub mod TooDeep
 pub mod Claims

@@ -2,6 +2,7 @@
 -- Assumes nothing.
 use Prim.Native.Nat.{ℕ, zero, suc, _+_, _*_, _-_, _/_, _<_, _≤_}
 use mathlib.Core.Path.{_≡_, refl, sym, ap, _∙_}
+use mathlib.Core.Logic.{_⊎_, inl, inr}
 use mathlib.Core.List.{List, [], _∷_}
 use mathlib.Core.Bool.{Bool, true, false, cond, not}
 use native.Mathlib.Nat.{add-zero}
@@ -26,6 +27,7 @@ pub record LinkedGood (m : ℕ) (n : Counts) (f : Form) (i j : ℕ) (cells : Lis
   pub fields : (a : ℕ) → a < m → FieldGood n (kindAt f (i + a)) (j + a) rows′ cells
   pub levels : (a : ℕ) → a < m → levelsOf (kindAt f (i + a)) (tagIn cells (j + a)) (valueIn cells (j + a)) rows ≤ e
   pub levels-before : d ≤ e
+  pub attained : (e ≡ d) ⊎ ((a : ℕ) × (a < m) × (e ≡ levelsOf (kindAt f (i + a)) (tagIn cells (j + a)) (valueIn cells (j + a)) rows))
 
 -- rows′ keeps the first four columns of each row
 abbrev Columns : List ℕ → List ℕ → Type 0
@@ -242,6 +244,26 @@ larger-second a b = by (ltb a b) refl
     by true e = omega arith
     by false e = ltb-false a b e
 
+-- and one of them
+larger-one : (a b : ℕ) → (larger a b ≡ a) ⊎ (larger a b ≡ b)
+unfolding larger
+larger-one a b = by (ltb a b)
+  where
+    by : (c : Bool) → (cond c b a ≡ a) ⊎ (cond c b a ≡ b)
+    by true = inr refl
+    by false = inl refl
+
+-- a number that is the larger of d and that of the first of m fields, or that of a later field, is d or that of a field
+attained-more : (L L′ : ℕ → ℕ → ℕ) → ((p q : ℕ) → L′ p q ≡ L p q) → (m i j d e : ℕ)
+    → (e ≡ larger d (L i j)) ⊎ ((a : ℕ) × (a < m) × (e ≡ L′ (i + 1 + a) (j + 1 + a)))
+    → (e ≡ d) ⊎ ((a : ℕ) × (a < suc m) × (e ≡ L (i + a) (j + a)))
+attained-more L L′ same m i j d e (inl p) = by (larger-one d (L i j))
+  where
+    by : (larger d (L i j) ≡ d) ⊎ (larger d (L i j) ≡ L i j) → (e ≡ d) ⊎ ((a : ℕ) × (a < suc m) × (e ≡ L (i + a) (j + a)))
+    by (inl q) = inl (p ∙ q)
+    by (inr q) = inr (0, omega arith, rw (add-zero i, add-zero j) (p ∙ q))
+attained-more L L′ same m i j d e (inr (a, h, p)) = inr (suc a, omega arith, rw (later i a, later j a) (p ∙ same (i + 1 + a) (j + 1 + a)))
+
 -- no fields: nothing changes
 no-fields : (n : Counts) (f : Form) (i j : ℕ) (cells : List ℕ) (d : ℕ) (rows : List ℕ) → LinkedGood zero n f i j cells d rows d rows
 no-fields n f i j cells d rows = record {
@@ -252,6 +274,7 @@ no-fields n f i j cells d rows = record {
   fields = λ a l. absurd (omega arith);
   levels = λ a l. absurd (omega arith);
   levels-before = omega arith;
+  attained = inl refl;
 }
 
 -- a field that is right and good fields behind it are good together
@@ -279,6 +302,9 @@ one-more m n f i j cells d rows e rows′ room w h rest =
           all-fields (λ p q. levelsOf (kindAt f p) (tagIn cells q) (valueIn cells q) rows ≤ e) m i j
           (omega (arith, larger-second d (levelsOf k tag x rows), rest .levels-before)) (λ a l. rw (levels-same _ _ _ rows now same) at (rest .levels a l));
       levels-before = omega (arith, larger-first d (levelsOf k tag x rows), rest .levels-before);
+      attained =
+          attained-more (λ p q. levelsOf (kindAt f p) (tagIn cells q) (valueIn cells q) rows) (λ p q. levelsOf (kindAt f p) (tagIn cells q) (valueIn cells q) now)
+          (λ p q. levels-same (kindAt f p) (tagIn cells q) (valueIn cells q) rows now same) m i j d e (rest .attained);
     }
 
 -- a line that is linked passed its test

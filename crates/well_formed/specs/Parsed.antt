@@ -20,7 +20,9 @@ use Rattle.forms.specs.declared.Cell.{Cell}
 use Rattle.forms.specs.declared.Read.{Read}
 use Rattle.forms.specs.declared.Read.the-variants.{Is, Bad}
 use Rattle.forms.specs.declared.Line.{Line}
+use Rattle.forms.specs.declared.Fault.{Fault}
 use Rattle.forms.specs.Form.{LineForm, forms, no-form, fits, worded, indexOf, formOf, formAt, kindAt, cell, valued, named, letterOf, optionalOf, binaryOf, unaryOf, tagOf, taggedOf, resolutionOf, behindOf, pairOf, readAs, readOf, Cells, refused, cells, prepend, cellsFrom, Parsed, wrong, parsed, startOf, countOf, withCells, counted, parseLine}
+use Rattle.body.specs.Body.{faultNumber}
 use Rattle.well_formed.specs.Good.{writtenAs}
 
 -- no field's cell
@@ -249,19 +251,19 @@ form-key : (k : ℕ) (v : List ℕ) → formOf k v < 30 → getD forms (formOf k
 unfolding formOf forms
 form-key k v h = index-key k (take (before 44 v) v) forms h
 
--- a line's value is good, where it is no fault
+-- a line's value is good, where it is no fault, and no fault of a value is that of levels
 abbrev IfParsed : ℕ → List ℕ → Parsed → Type 0
-IfParsed k v (wrong x) = Unit {0}
+IfParsed k v (wrong x) = faultNumber x < 6
 IfParsed k v (parsed f l) = ParsedGood k v f l
 
 -- a value of the form f whose cells are good is good, where it has as many as the form
 counted-good : (k : ℕ) (v : List ℕ) (f p : ℕ) (r : Cells) → f < 30 → getD forms f no-form .key ≡ k → IfCells (formAt f) 0 (fieldsFrom p v) r
     → IfParsed k v (counted f (formAt f) r)
 unfolding countOf
-counted-good k v f p refused h e g = tt
+counted-good k v f p refused h e g = omega arith
 counted-good k v f p (cells l) h e g =
-    by-test (λ (x : Line). IfParsed k v (withCells x l)) (ltb (length l) (formAt f .4)) _ _ (λ a. tt)
-    (λ a. by-test (λ (x : Line). IfParsed k v (withCells x l)) (ltb (formAt f .5) (length l)) _ _ (λ b. tt)
+    by-test (λ (x : Line). IfParsed k v (withCells x l)) (ltb (length l) (formAt f .4)) _ _ (λ a. omega arith)
+    (λ a. by-test (λ (x : Line). IfParsed k v (withCells x l)) (ltb (formAt f .5) (length l)) _ _ (λ b. omega arith)
     (λ b. record {
       form = h;
       key = e;
@@ -279,8 +281,12 @@ parse-good k v =
     let p : ℕ = startOf k (length v) (before 44 v) in
     let ss : List (List ℕ) = fieldsFrom p v in
     by-test (IfParsed k v) (ltb f 30) _ _
-    (λ h. counted-good k v f p (cellsFrom (formAt f) 0 ss) (ltb-true f 30 h) (form-key k v (ltb-true f 30 h)) (cells-good (formAt f) 0 ss)) (λ h. tt)
+    (λ h. counted-good k v f p (cellsFrom (formAt f) 0 ss) (ltb-true f 30 h) (form-key k v (ltb-true f 30 h)) (cells-good (formAt f) 0 ss)) (λ h. omega arith)
 
 -- a value that was read is good
 pub parsed-good : (k : ℕ) (v : List ℕ) (f : ℕ) (l : List Cell) → parseLine k v ≡ parsed f l → ParsedGood k v f l
 parsed-good k v f l e = subst (IfParsed k v) e (parse-good k v)
+
+-- the fault of a value that was not is not that of levels
+pub parsed-fault : (k : ℕ) (v : List ℕ) (x : Fault) → parseLine k v ≡ wrong x → faultNumber x < 6
+parsed-fault k v x e = subst (IfParsed k v) e (parse-good k v)

@@ -19,8 +19,12 @@ use Rattle.well_formed.specs.Counting.{counted-within, counted-fields, b
 use Rattle.well_formed.specs.Zeros.{ZeroBehind}
 use Rattle.well_formed.specs.Frame.{Frame, frame-less, row-framed}
 
+-- a row has more levels than its key may have
+abbrev pub DeepRow : Counts → List ℕ → Type 0
+DeepRow n rows = (k : ℕ) × (i : ℕ) × (i < countOf n k) × (isDeep k (levelsIn rows (baseOf k + i)) ≡ true)
+
 -- the tables behind some lines: long enough, the counts within the limits, no row of a key behind the state's, each row good, the fields in
--- the order of the rows, no two type rows equal, no row too deep unless the state says so, and zero past the used rows
+-- the order of the rows, no two type rows equal, a row too deep where the state says so and only there, and zero past the used rows
 pub record Reading (st : State) (cells rows : List ℕ) : Type 0 where
   pub rows-long : rows-length ≤ length rows
   pub cells-long : cells-length ≤ length cells
@@ -32,6 +36,7 @@ pub record Reading (st : State) (cells rows : List ℕ) : Type 0 where
   pub fn-last : st .key ≡ key-fn → FnLast (st .counts) rows
   pub distinct : Distinct (st .counts) rows cells
   pub levels : st .deep ≡ false → (k i : ℕ) → i < countOf (st .counts) k → isDeep k (levelsIn rows (baseOf k + i)) ≡ false
+  pub deep-there : st .deep ≡ true → DeepRow (st .counts) rows
   pub zero : ZeroBehind (st .counts) rows cells
 
 -- the four numbers of every row but r stay, and so does the user of each node that has one

@@ -9,24 +9,24 @@ use mathlib.Core.List.{List}
 use mathlib.Core.Bool.{Bool, true, false, cond, true≢false, false≢true}
 use lib.Dec.{leb, ltb, eqb}
 use lib.ListN.{length, take, drop, length-drop}
-use borrow.Author.Tests.{ltb-true, ltb-false, leb-true}
+use borrow.Author.Tests.{ltb-true, ltb-false, leb-true, eqb-true}
 use Rattle.forms.specs.declared.Cell.{Cell}
 use Rattle.forms.specs.declared.Fault.the-variants as fault
-use Rattle.forms.specs.Form.{key-type, key-fn, keyOf, formAt, kindAt, Parsed, wrong, parsed, parseLine, lay, storeFrom}
+use Rattle.forms.specs.Form.{key-type, key-node, key-fn, keyOf, formAt, kindAt, Parsed, wrong, parsed, parseLine, lay, storeFrom}
 use Rattle.lex.specs.Text.{before}
 use Rattle.refs.specs.declared.Counts.{Counts}
-use Rattle.refs.specs.Refs.{nodes-at, fn-at, formIn, firstIn, countIn, levelsIn, tagIn, valueIn, Linked, unlinked, linked, refsFrom, isSame}
+use Rattle.refs.specs.Refs.{nodes-at, fn-at, formIn, firstIn, countIn, levelsIn, tagIn, valueIn, levelsOf, Linked, unlinked, linked, refsFrom, isSame}
 use Rattle.body.specs.declared.State.{State}
-use Rattle.body.specs.Body.{most-bytes, inOrder, limitOf, countOf, baseOf, counted, deeper, levelsOver, isDeep, advance, putRow, repeats, Stepped, bad, next, placed, judged, valued, stepOf}
-use Rattle.well_formed.specs.Good.{writtenAs, behind, RowGood, Before, FnLast}
-use Rattle.well_formed.specs.Parsed.{ParsedGood, parsed-good}
+use Rattle.body.specs.Body.{most-bytes, inOrder, limitOf, countOf, baseOf, counted, deeper, levelsOver, isDeep, advance, putRow, repeats, Stepped, bad, next, placed, judged, valued, stepOf, faultNumber}
+use Rattle.well_formed.specs.Good.{writtenAs, behind, Attained, RowGood, Before, FnLast}
+use Rattle.well_formed.specs.Parsed.{ParsedGood, parsed-good, parsed-fault}
 use Rattle.well_formed.specs.Linked.{LinkedGood, linked-good}
 use Rattle.well_formed.specs.Stored.{stored-length, stored-before, stored-tag, stored-value, put-length, put-other, put-user, put-form, put-first, put-count, put-levels}
-use Rattle.well_formed.specs.Counting.{counted-fields, behind-new, behind-new-nodes, grown, counted-limited, rows-inside}
+use Rattle.well_formed.specs.Counting.{counted-fields, behind-new, behind-new-nodes, grown, counted-more, counted-own, counted-limited, rows-inside}
 use Rattle.well_formed.specs.Zeros.{zero-line}
 use Rattle.well_formed.specs.Repeats.{none-same, same-kept}
 use Rattle.well_formed.specs.Frame.{Frame, LineGood, levels-framed, line-framed, row-of}
-use Rattle.well_formed.specs.Reading.{Reading, RowsKept, counted-key, next-apart, type-apart, kept-form, kept-first, kept-count, kept-levels, next-frame, rows-stay}
+use Rattle.well_formed.specs.Reading.{DeepRow, Reading, RowsKept, counted-key, next-apart, type-apart, kept-form, kept-first, kept-count, kept-levels, next-frame, rows-stay}
 
 -- a level more of no fewer levels is no less
 deeper-le : (a b : ℕ) → a ≤ b → deeper a ≤ deeper b
@@ -73,6 +73,24 @@ kept-both r rows rows′ rows″ a b = record {
   users = λ x h. b .users x (λ z. h (sym (a .users x h) ∙ z)) ∙ a .users x h;
 }
 
+-- the levels of a line are those of its form, or those over one of its parts
+attained-new : (n : Counts) (f m : ℕ) (cells rows : List ℕ) (e : ℕ) (rows′ : List ℕ) → LinkedGood m n (formAt f) 0 (n .fields) cells 0 rows e rows′
+    → Attained f (n .fields) m (levelsOver f e) rows′ cells
+unfolding levelsIn
+attained-new n f m cells rows e rows′ g = by (g .attained)
+  where
+    by : (e ≡ 0) ⊎ ((i : ℕ) × (i < m) × (e ≡ levelsOf (kindAt (formAt f) (0 + i)) (tagIn cells (n .fields + i)) (valueIn cells (n .fields + i)) rows))
+        → Attained f (n .fields) m (levelsOver f e) rows′ cells
+    by (inl q) = inl (ap (levelsOver f) q)
+    by (inr (i, h, q)) = inr (
+      i,
+      h,
+      ap (levelsOver f)
+          (rw (zero-add i) at q
+          ∙ sym (levels-framed n (kindAt (formAt f) i) (n .fields + i) rows′ rows rows′ cells (rw (zero-add i) at (g .fields i h))
+          (λ x b. g .columns x 3 (omega arith)) (λ x b. g .columns (nodes-at + x) 3 (omega arith)))),
+    )
+
 -- a line whose references are right is good
 line-new : (n : Counts) (k f : ℕ) (v : List ℕ) (l : List Cell) (cells rows : List ℕ) (e : ℕ) (rows′ : List ℕ) → ParsedGood k v f l
     → LinkedGood (length l) n (formAt f) 0 (n .fields) cells 0 rows e rows′
@@ -91,12 +109,28 @@ line-new n k f v l cells rows e rows′ p g = record {
       (rw (levels-framed n (kindAt (formAt f) i) (n .fields + i) rows′ rows rows′ cells (rw (zero-add i) at (g .fields i h))
       (λ x b. g .columns x 3 (omega arith)) (λ x b. g .columns (nodes-at + x) 3 (omega arith)))
       (rw (zero-add i) at (g .levels i h)));
+  attained = attained-new n f (length l) cells rows e rows′ g;
 }
 
 -- a state that is not deep was not, and the line is not
 not-deep : (a b : Bool) → cond a true b ≡ false → (a ≡ false) × (b ≡ false)
 not-deep true b e = absurd (true≢false e)
 not-deep false b e = (refl, e)
+
+-- a state that is deep was, or the line is
+was-deep : (a b : Bool) → cond a true b ≡ true → (a ≡ true) ⊎ (b ≡ true)
+was-deep true b e = inl refl
+was-deep false b e = inr e
+
+-- only a type or a node can be too deep
+deep-key : (k d : ℕ) → isDeep k d ≡ true → k ≤ key-node
+unfolding isDeep
+deep-key k d = by (eqb k key-type) refl (eqb k key-node) refl
+  where
+    by : (a : Bool) → eqb k key-type ≡ a → (b : Bool) → eqb k key-node ≡ b → cond a (ltb 4 d) (cond b (ltb 64 d) false) ≡ true → k ≤ key-node
+    by true p b q e = omega (arith, eqb-true k key-type p)
+    by false p true q e = omega (arith, eqb-true k key-node q)
+    by false p false q e = absurd (false≢true e)
 
 -- a tag before the stored cells stays
 tag-before : (t : List ℕ) (j : ℕ) (l : List Cell) (x : ℕ) → x < j → tagIn (storeFrom t j l) x ≡ tagIn t x
@@ -181,6 +215,24 @@ module _ (st : State) (k f : ℕ) (v : List ℕ) (l : List Cell) (cells rows : L
   levels-new j i (inl h) d =
       rw (kept-levels place rows put rows-kept (baseOf j + i) (place-apart j i h)) (reading .levels (d .0) j i h)
   levels-new j i (inr q) d = rw (q .1, q .0, put-levels rows′ place f (n .fields) (length l) depth put-inside) (d .1)
+
+  -- where the state says so, a row behind the line is too deep
+  deep-new : (st .deep ≡ true) ⊎ (isDeep k depth ≡ true) → DeepRow n′ put
+  deep-new (inl d) = by (reading .deep-there d)
+    where
+      by : DeepRow n rows → DeepRow n′ put
+      by (j, i, h, q) = (
+        j,
+        i,
+        omega (arith, counted-more n k (length l) j (omega (arith, counted-key n j i h))),
+        rw (kept-levels place rows put rows-kept (baseOf j + i) (place-apart j i h)) q,
+      )
+  deep-new (inr d) = (
+    k,
+    countOf n k,
+    omega (arith, counted-own n k (length l) (deep-key k depth d)),
+    rw (put-levels rows′ place f (n .fields) (length l) depth put-inside) d,
+  )
 
   -- no row behind the line is of a key behind the line's
   keys-new : (j i : ℕ) → (i < countOf n j) ⊎ ((j ≡ k) × (i ≡ countOf n j)) → j ≤ k
@@ -294,12 +346,13 @@ module _ (st : State) (k f : ℕ) (v : List ℕ) (l : List Cell) (cells rows : L
     fn-last = fn-last-new;
     distinct = λ i j h b. distinct-new i j h (type-grown j b);
     levels = λ d j i h. levels-new j i (grown n k (length l) j i h) (not-deep (st .deep) (isDeep k depth) d);
+    deep-there = λ d. deep-new (was-deep (st .deep) (isDeep k depth) d);
     zero = zero-line n k (reading .limited) hk room f l depth rows rows′ cells (links .outside) (reading .zero);
   }
 
--- a step behind which the tables are as they should be, and the fields have taken at most b bytes
+-- a step behind which the tables are as they should be, and the fields have taken at most b bytes, or a fault that is not of levels
 abbrev pub GoodStep : ℕ → Stepped → Type 0
-GoodStep b (bad x) = Unit {0}
+GoodStep b (bad x) = faultNumber x < 6
 GoodStep b (next st cells rows) = Reading st cells rows × (st .counts .fields * 2 ≤ b)
 
 -- a key in order is a key, and no earlier one
@@ -341,9 +394,9 @@ judged-good st k f v l cells rows b reading hk later good wide fits =
     by : (c : Bool) → ltb (countOf (st .counts) k) (limitOf k) ≡ c → (d : Bool) → repeats k f (length l) (st .counts) stored rows ≡ d
         → (r : Linked) → refsFrom (length l) (st .counts) (formAt f) 0 (st .counts .fields) stored 0 rows ≡ r
         → GoodStep b (cond c (cond d (bad fault.Reference) (placed st k f (length l) stored r)) (bad fault.Limit))
-    by false p d u r q = tt
-    by true p true u r q = tt
-    by true p false u unlinked q = tt
+    by false p d u r q = omega arith
+    by true p true u r q = omega arith
+    by true p false u unlinked q = omega arith
     by true p false u (linked e rows′) q = (
       placed-reading st k f v l cells rows e rows′ reading hk later (ltb-true (countOf (st .counts) k) (limitOf k) p) good u
           (linked-good (length l) (st .counts) (formAt f) 0 (st .counts .fields) stored 0 rows e rows′ (nodes-inside st cells rows reading) written q),
@@ -353,7 +406,7 @@ judged-good st k f v l cells rows b reading hk later good wide fits =
 -- a line whose key and value are known
 valued-good : (st : State) (k : ℕ) (v : List ℕ) (cells rows : List ℕ) (b : ℕ) (p : Parsed) → parseLine k v ≡ p → Reading st cells rows → k < 6 → st .key ≤ k
     → b ≤ most-bytes → st .counts .fields * 2 + (length v + 1) ≤ b → GoodStep b (valued st k (lay p cells (st .counts .fields)) rows)
-valued-good st k v cells rows b (wrong x) q reading hk later most fits = tt
+valued-good st k v cells rows b (wrong x) q reading hk later most fits = parsed-fault k v x q
 valued-good st k v cells rows b (parsed f l) q reading hk later most fits =
     let good : ParsedGood k v f l = parsed-good k v f l q in
     judged-good st k f v l cells rows b reading hk later good (omega (arith, good .bytes, reading .cells-long)) (omega (arith, good .bytes))
@@ -375,5 +428,5 @@ step-good l st cells rows reading fits = by (ltb (before 61 l) (length l)) refl 
     by true p true q =
         valued-good st k v cells rows (st .counts .fields * 2 + length l) (parseLine k v) refl reading (in-order (st .key) k q .0) (in-order (st .key) k q .1) fits
         (omega (arith, length-drop (before 61 l + 1) l, ltb-true (before 61 l) (length l) p))
-    by true p false q = tt
-    by false p c q = tt
+    by true p false q = omega arith
+    by false p c q = omega arith

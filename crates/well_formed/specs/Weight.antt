@@ -98,7 +98,7 @@ ownLevel : ℕ → Bool
 ownLevel f = cond (eqb (getD forms f no-form .key) key-node) (cond (eqb f 1) true (cond (ltb f 7) false (cond (ltb 28 f) false true))) true
 
 -- a node is a level of its own
-node-deeper : (f d : ℕ) → f < 30 → getD forms f no-form .key ≡ key-node → levelsOver f d ≡ deeper d
+pub node-deeper : (f d : ℕ) → f < 30 → getD forms f no-form .key ≡ key-node → levelsOver f d ≡ deeper d
 unfolding each ownLevel forms levelsOver
 node-deeper f d h k = by (eqb (getD forms f no-form .key) key-node) (eq-eqb _ _ k) (eqb f 1) (ltb f 7) (ltb 28 f) (each-at 30 ownLevel f refl h)
   where

@@ -5,7 +5,7 @@ use native.Mathlib.Nat.{zero-add, add-zero}
 use native.Mathlib.Omega.{arith}
 use mathlib.Core.Path.{_≡_, refl, ap, _∙_}
 use mathlib.Core.List.{List, [], _∷_}
-use mathlib.Core.Bool.{Bool, true, false, cond}
+use mathlib.Core.Bool.{Bool, true, false, cond, false≢true}
 use lib.Dec.{ltb, eqb}
 use lib.ListN.{length, length-replicate}
 use borrow.Author.Tests.{ltb-false, le-leb, leb-false, eqb-true}
@@ -23,7 +23,7 @@ use Rattle.well_formed.specs.Reading.{Reading}
 use Rattle.well_formed.specs.Step.{GoodStep, step-good}
 
 -- the bytes of some lines
-total : List (List ℕ) → ℕ
+unfoldable pub total : List (List ℕ) → ℕ
 total [] = 0
 total (s ∷ ss) = length s + total ss
 
@@ -44,7 +44,7 @@ split-total c (x ∷ xs) = by (eqb x c) (split-total c xs)
     by false h = omega (arith, onto-total x (split c xs))
 
 -- the lines from the start on
-parts-total : (s : List ℕ) → total (partsFrom 10 0 s) ≤ length s
+pub parts-total : (s : List ℕ) → total (partsFrom 10 0 s) ≤ length s
 unfolding partsFrom
 parts-total s = rw (le-leb 0 (length s) (omega arith)) (split-total 10 s)
 
@@ -155,7 +155,7 @@ none-counted k = by (eqb k key-type) (eqb k key-def) (eqb k key-inst) (eqb k key
     by false false false false false = refl
 
 -- so what is known of the tables holds at the start
-start-reading : (rows cells : List ℕ) → rows-length ≤ length rows → cells-length ≤ length cells → Reading first (zeros cells) (zeros rows)
+pub start-reading : (rows cells : List ℕ) → rows-length ≤ length rows → cells-length ≤ length cells → Reading first (zeros cells) (zeros rows)
 start-reading rows cells hr hc = record {
   rows-long = omega (arith, length-replicate {A = ℕ} (length rows) 0);
   cells-long = omega (arith, length-replicate {A = ℕ} (length cells) 0);
@@ -167,6 +167,7 @@ start-reading rows cells hr hc = record {
   fn-last = λ e. absurd (omega (arith, e));
   distinct = λ i j h l. absurd (omega arith);
   levels = λ d k i h. absurd (omega (arith, none-counted k));
+  deep-there = λ e. absurd (false≢true e);
   zero = zeros-behind no-rows rows cells;
 }
 
