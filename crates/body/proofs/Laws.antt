@@ -1,15 +1,15 @@
 -- Laws of the definitions of a line and of a file, one for each way in which the code returns or goes on.
 -- Assumes nothing.
-use Prim.Native.Nat.{ℕ, suc, _+_, _*_, _-_, _<_, _≤_, zero-le}
+use Prim.Native.Nat.{ℕ, suc, _+_, _*_, _-_, _<_, _≤_}
 use mathlib.Core.Path.{_≡_, refl, ap, sym, _∙_}
-use mathlib.Core.List.{List, [], _∷_, _++_, append-nil}
-use mathlib.Core.Bool.{Bool, true, false, cond}
-use native.Mathlib.Nat.{zero-add, add-zero, sub-zero}
+use mathlib.Core.List.{List, _++_, append-nil}
+use mathlib.Core.Bool.{Bool, true, false}
+use native.Mathlib.Nat.{zero-add, sub-zero}
 use native.Mathlib.Numerals.{add-one, add-two}
 use native.Mathlib.Omega.{arith}
 use lib.Dec.{ltb}
 use lib.ListN.{length, take, drop, set, replicate, length-drop, drop-of-length-le}
-use lib.Seq.{sets, length-take-le}
+use lib.Seq.{length-take-le}
 use borrow.Author.Fill.{fill-more}
 use borrow.Author.Tests.{lt-ltb, le-ltb, eq-eqb, ne-eqb}
 use Rattle.lex.specs.Text.{before, pack, partsFrom}
@@ -31,7 +31,6 @@ use Rattle.body.specs.declared.Step.{Step}
 use Rattle.body.specs.declared.Step.the-variants as step
 use Rattle.body.specs.declared.End.{End}
 use Rattle.body.specs.declared.End.the-variants as end
-use Rattle.body.specs.declared.Answer.{Answer}
 use Rattle.body.specs.declared.Answer.the-variants as answer
 use Rattle.body.specs.Body.{first, inOrder, limitOf, countOf, baseOf, levelsOver, advance, putRow, repeats, bad, next, placed, judged, valued, stepOf, isAhead, firstAhead, Ended, refused, read, finishOf, linesFrom, zeros, held, settle, bodyOf, stepped, ended, fieldsIn}
 

@@ -2,15 +2,15 @@
 use mathlib.Core.Path.{_≡_, refl}
 use mathlib.Core.Logic.{_↔_, inr}
 use mathlib.Core.List.{List, [], _∷_, _++_}
-use mathlib.Core.Option.{Option, none, some}
-use mathlib.Core.Bool.{Bool, true, false}
+use mathlib.Core.Option.{none, some}
+use mathlib.Core.Bool.{false}
 use Prim.Native.Nat.{ℕ}
 use native.Mathlib.Decide.{ℕ-discrete}
-use Rattle.theory.specs.Rules.{w8, w16, w32, w64, bool, nil, float, double, uint, int, Shape, base, var, err, div, integer, Out, success, Mem, choose, split, atVar, act, pass, bind, leads, seek, unify}
-use Rattle.theory.specs.Program.{Equation, St, Prog, done, draw, equate, drawn, raised, emitted, refused, solve, run}
+use Rattle.theory.specs.Rules.{w8, w16, w32, w64, bool, nil, float, double, uint, int, Shape, base, var, err, div, integer, success, choose, split, atVar, act, pass, bind, leads, seek, unify}
+use Rattle.theory.specs.Program.{St, Prog, done, draw, equate, drawn, raised, emitted, refused, solve, run}
 use Rattle.theory.specs.Basics.{All}
 use Rattle.theory.specs.Ways.{Way, Kinded, Agrees, Sided, Meets, plain-base, plain-var}
-use Rattle.theory.specs.Start.{start, ordered}
+use Rattle.theory.specs.Start.{start}
 use Rattle.theory.specs.Claims.{demand-3-without-error}
 
 -- nil, bool, u8 to u64, i8 to i64, f32, f64, err, diverges

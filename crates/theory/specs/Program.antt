@@ -3,8 +3,8 @@ use mathlib.Core.Path.{_≡_, refl}
 use mathlib.Core.List.{List, [], _∷_, _++_}
 use mathlib.Core.Option.{Option, none, some}
 use mathlib.Core.Bool.{Bool, true, false, cond, _&&_}
-use Prim.Native.Nat.{ℕ, suc, zero, _+_, _*_}
-use lib.ListN.{length, getD, set}
+use Prim.Native.Nat.{ℕ, suc, _+_, _*_}
+use lib.ListN.{length, set}
 use lib.Dec.{eqb, ltb}
 use Rattle.theory.specs.Rules.{Base, bool, nil, float, double, uint, int, inst, Shape, base, var, arr, ref, fn, fun, lam, err, div, Kind, Out, success, mismatch, kindOrder, refused12, refused13, dry, Mem, Pair, Res, head, kids, asVar, unify}
 

@@ -14,7 +14,7 @@ use Rattle.unify.specs.declared.Reply.{Reply}
 use Rattle.unify.specs.declared.Reply.the-variants.{Success, Mismatch, KindOrder, Refused12, Refused13, Dry}
 use Rattle.unify.specs.Leaf.{outK}
 use Rattle.unify.specs.Step.{Rec, Parted}
-use Rattle.unify.specs.Promise.{Frame, kindsIn, memIn, numbers, rowsIn}
+use Rattle.unify.specs.Promise.{Frame, kindsIn, memIn, rowsIn}
 
 -- success goes on, anything else ends
 abbrev pub isSuccess : Reply → Bool
