@@ -168,14 +168,37 @@ linesFrom [] l st cells rows = refused fault.Form l
 linesFrom (s ∷ []) l st cells rows = cond (eqb (length s) 0) (finishOf st l cells rows) (refused fault.Form l)
 linesFrom (s ∷ t ∷ ts) l st cells rows = proceed (stepOf s st cells rows) l (linesFrom (t ∷ ts) (l + 1))
 
--- an answer and the tables
+-- document 01's number of a fault
+abbrev pub faultNumber : Fault → ℕ
+faultNumber fault.Form = 3
+faultNumber fault.Limit = 4
+faultNumber fault.Reference = 5
+faultNumber fault.Levels = 6
+
+-- document 01's number of an answer
+abbrev pub answerNumber : Answer → ℕ
+answerNumber (answer.Body n) = 0
+answerNumber answer.TooLong = 1
+answerNumber answer.ShortTable = 2
+answerNumber (answer.Refused x l) = faultNumber x
+
+-- PLACE: the line for 3 to 6, else `-`
+abbrev pub answerPlace : Answer → Option ℕ
+answerPlace (answer.Body n) = none
+answerPlace answer.TooLong = none
+answerPlace answer.ShortTable = none
+answerPlace (answer.Refused x l) = some l
+
+-- an answer with its number and its PLACE, and the tables
 pub record Held : Type 0 where
   pub answer : Answer
+  pub number : ℕ
+  pub place : Option ℕ
   pub rows : List ℕ
   pub cells : List ℕ
 
 abbrev pub held : Answer → List ℕ → List ℕ → Held
-held a rows cells = record { answer = a; rows = rows; cells = cells }
+held a rows cells = record { answer = a; number = answerNumber a; place = answerPlace a; rows = rows; cells = cells }
 
 -- zeros in a table's place
 abbrev pub zeros : List ℕ → List ℕ
@@ -193,26 +216,6 @@ bodyOf s rows cells =
     (cond (ltb (length rows) rows-length) (held answer.ShortTable rows cells)
     (cond (ltb (length cells) cells-length) (held answer.ShortTable rows cells)
     (settle (linesFrom (partsFrom 10 0 s) 1 first (zeros cells) (zeros rows)) rows cells)))
-
--- document 01's number of a fault, and of an answer
-abbrev pub faultNumber : Fault → ℕ
-faultNumber fault.Form = 3
-faultNumber fault.Limit = 4
-faultNumber fault.Reference = 5
-faultNumber fault.Levels = 6
-
-abbrev pub answerNumber : Answer → ℕ
-answerNumber (answer.Body n) = 0
-answerNumber answer.TooLong = 1
-answerNumber answer.ShortTable = 2
-answerNumber (answer.Refused x l) = faultNumber x
-
--- PLACE: the line for 3 to 6, else `-`
-abbrev pub answerPlace : Answer → Option ℕ
-answerPlace (answer.Body n) = none
-answerPlace answer.TooLong = none
-answerPlace answer.ShortTable = none
-answerPlace (answer.Refused x l) = some l
 
 -- what a step's answer says with the tables
 abbrev pub stepped : Step → List ℕ → List ℕ → Stepped

@@ -14,7 +14,7 @@ use Rattle.forms.specs.declared.Fault.{Fault}
 use Rattle.refs.specs.declared.Counts.{Counts}
 use Rattle.body.specs.declared.Answer.{Answer}
 use Rattle.body.specs.declared.Answer.the-variants as answer
-use Rattle.body.specs.Body.{most-bytes, rows-length, cells-length, first, Ended, refused, read, linesFrom, Held, held, zeros, settle, bodyOf}
+use Rattle.body.specs.Body.{most-bytes, rows-length, cells-length, first, Ended, refused, read, linesFrom, answerNumber, answerPlace, Held, held, zeros, settle, bodyOf}
 
 -- a table is below its length
 abbrev Short : List ℕ → List ℕ → Type 0
@@ -107,3 +107,12 @@ module _ (s rows cells : List ℕ) where
   determined a b rows′ cells′ rows″ cells″ p q =
       let e : held a rows′ cells′ ≡ held b rows″ cells″ = p ∙ sym q in
       (ap (λ (h : Held). h .answer) e, ap (λ (h : Held). h .rows) e, ap (λ (h : Held). h .cells) e)
+
+-- a file's outcome has the number and the PLACE of its answer
+pub numbered : (s rows cells : List ℕ) → (bodyOf s rows cells .number ≡ answerNumber (bodyOf s rows cells .answer)) × (bodyOf s rows cells .place ≡ answerPlace (bodyOf s rows cells .answer))
+numbered s rows cells =
+    outcome s rows cells (λ (h : Held). (h .number ≡ answerNumber (h .answer)) × (h .place ≡ answerPlace (h .answer)))
+    (λ l. (refl, refl))
+    (λ l h. (refl, refl))
+    (λ x l. (refl, refl))
+    (λ n r c. (refl, refl))

@@ -17,7 +17,7 @@ use Rattle.refs.specs.declared.Counts.{Counts}
 use Rattle.refs.specs.Refs.{nodes-at, fn-at, formIn, firstIn, countIn, levelsIn, valueIn}
 use Rattle.body.specs.declared.Answer.{Answer}
 use Rattle.body.specs.declared.Answer.the-variants as answer
-use Rattle.body.specs.Body.{most-bytes, rows-length, cells-length, Held, held, zeros, bodyOf}
+use Rattle.body.specs.Body.{most-bytes, rows-length, cells-length, answerNumber, answerPlace, Held, held, zeros, bodyOf}
 use Rattle.well_formed.specs.Good.{WellFormed}
 use Rattle.well_formed.specs.Zeros.{ZeroBehind}
 use Rattle.well_formed.specs.WellFormed as body
@@ -45,6 +45,10 @@ module _ (s rows cells : List ℕ) where
   pub one-result : (a b : Answer) (rows′ cells′ rows″ cells″ : List ℕ) → held a rows′ cells′ ≡ result → held b rows″ cells″ ≡ result
       → (a ≡ b) × (rows′ ≡ rows″) × (cells′ ≡ cells″)
   one-result = answers.determined s rows cells
+
+  -- the result has document 01's number of its answer, 0 to 6, and its PLACE: the line for 3 to 6, else `-`
+  pub number-and-place : (result .number ≡ answerNumber (result .answer)) × (result .place ≡ answerPlace (result .answer))
+  number-and-place = answers.numbered s rows cells
 
   -- ── 2. the answers 1 and 2 ──
 
