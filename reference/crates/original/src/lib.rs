@@ -1,0 +1,162 @@
+//! The original checker on a body: its AIR is built, `FunCx` is set up and run as `typeck` does, and what came of it is told
+//! in document 01's words.
+mod air;
+
+use body::{Body, FIXED_TYPES};
+use lychee_middle::session::Session;
+use lychee_middle::typing::fun_cx::observe::{self, Cycle, Stopped, Wish};
+use lychee_middle::typing::fun_cx::typeck_observed;
+use lychee_util::arena::Arena;
+use lychee_util::def::DefId;
+use lychee_util::errors::DiagEmitter;
+use lychee_util::flags::Flags;
+use lychee_util::pooled::{Endless, arm_guard, disarm_guard};
+use lychee_util::sources::Sources;
+use std::any::Any;
+use std::collections::HashSet;
+use std::panic::{AssertUnwindSafe, catch_unwind};
+
+pub use lychee_middle::typing::fun_cx::observe::{Branch, Entry};
+
+/// Steps after which a run counts as endless: reads of pooled types, about a second.
+const STEPS: u64 = 150_000_000;
+/// The same for a run that has bound a cycle.
+const STEPS_AFTER_CYCLE: u64 = 1_000_000;
+/// Bytes of the stack after which a recursion counts as endless.
+const STACK: usize = 16 << 20;
+/// The stack that a thread which calls `run` needs.
+pub const THREAD_STACK: usize = 64 << 20;
+
+/// What the original gives.
+#[derive(Clone, PartialEq, Eq, Debug)]
+pub enum Outcome {
+    /// It ended: the whole report.
+    Report(String),
+    /// It panicked where document 01 has a refusal: 10, 11 or 13, and the node whose rule ran.
+    Refused(u8, usize),
+    /// It does not judge this body.
+    Outside(Outside),
+    /// It panicked elsewhere, with this message.
+    Panic(String),
+}
+
+#[derive(Clone, Copy, PartialEq, Eq, Debug)]
+pub enum Outside {
+    /// A ring was reached in the rule of this node; the source binds it.
+    Ring(usize),
+    /// A variable was to be bound inside itself in the rule of this node; the source does that.
+    Inside(usize),
+    /// The guard ended the run: marks that grow, or a walk that does not end.
+    Endless,
+}
+
+impl Outcome {
+    /// The text that is printed for it.
+    pub fn text(&self) -> String {
+        match self {
+            Outcome::Report(text) => text.clone(),
+            Outcome::Refused(answer, node) => format!("answer={answer},{node}\n"),
+            Outcome::Outside(Outside::Ring(node)) => format!("outside=ring,{node}\n"),
+            Outcome::Outside(Outside::Inside(node)) => format!("outside=inside,{node}\n"),
+            Outcome::Outside(Outside::Endless) => "outside=endless\n".to_string(),
+            Outcome::Panic(message) => format!("panic: {message}\n"),
+        }
+    }
+}
+
+/// What is wanted of a run.
+#[derive(Clone, Copy, Default)]
+pub struct Want {
+    /// The source goes on behind a ring or a variable inside itself, and a panic stays one.
+    pub source: bool,
+    /// Each entry of `unify` is kept.
+    pub entries: bool,
+}
+
+pub struct Run {
+    pub outcome: Outcome,
+    pub branches: HashSet<Branch>,
+    pub entries: Vec<Entry>,
+}
+
+/// The body through the original checker.
+pub fn run(body: &Body, want: Want) -> Run {
+    observe::start(Wish { stop: !want.source, entries: want.entries, steps_after: STEPS_AFTER_CYCLE });
+    // The session and what it borrows have one lifetime, and live to the end of this function.
+    let arena = Box::into_raw(Box::new(Arena::new()));
+    let sources = Box::into_raw(Box::new(Sources::default()));
+    let (a, s): (&'static Arena, &'static Sources) = unsafe { (&*arena, &*sources) };
+    let diag = Box::into_raw(Box::new(DiagEmitter::new(s)));
+    let (map, file) = air::build(a, body);
+    let session = Session::new(unsafe { &*diag }, Flags, s, a, map);
+    let session = Box::into_raw(Box::new(session));
+
+    let outcome = walk(unsafe { &*session }, a, body, &file, want);
+    let run = Run { outcome, branches: observe::branches(), entries: observe::entries() };
+
+    unsafe {
+        drop(Box::from_raw(session));
+        drop(Box::from_raw(diag));
+        drop(Box::from_raw(sources));
+        drop(Box::from_raw(arena));
+    }
+    run
+}
+
+fn walk(s: &'static Session<'static>, a: &'static Arena, body: &Body, file: &observe::File, want: Want) -> Outcome {
+    let mut text = String::new();
+    let result = catch_unwind(AssertUnwindSafe(|| {
+        arm_guard(STEPS, STACK);
+        // The declared types by the source's own `lower_ty`, in row order, so that their numbers are those of the rows.
+        let types = air::Types::new(a, body);
+        for row in 0..body.types.len() {
+            s.lower_ty(types.written(FIXED_TYPES + row));
+            assert_eq!(observe::types_made(s), FIXED_TYPES + row + 1, "equal rows");
+        }
+        s.enter(|s| text = typeck_observed(s, DefId::new(air::FN), file));
+    }));
+    disarm_guard();
+    let place = observe::place().map_or(body.body, |n| n as usize);
+    match result {
+        Ok(()) => Outcome::Report(text),
+        Err(thrown) if thrown.is::<Endless>() => Outcome::Outside(Outside::Endless),
+        Err(thrown) if thrown.is::<Stopped>() => match observe::first_cycle() {
+            Some((Cycle::Ring, _)) => Outcome::Outside(Outside::Ring(place)),
+            _ => Outcome::Outside(Outside::Inside(place)),
+        },
+        Err(thrown) => {
+            let message = message(&*thrown);
+            match refusal(&message) {
+                Some(answer) if !want.source => Outcome::Refused(answer, place),
+                _ => Outcome::Panic(message),
+            }
+        }
+    }
+}
+
+/// The first line of a panic's message.
+fn message(thrown: &(dyn Any + Send)) -> String {
+    let text = match (thrown.downcast_ref::<String>(), thrown.downcast_ref::<&str>()) {
+        (Some(s), _) => s.as_str(),
+        (_, Some(s)) => s,
+        _ => "",
+    };
+    text.lines().next().unwrap_or("").to_string()
+}
+
+/// Document 01's number for a panic of the source.
+fn refusal(message: &str) -> Option<u8> {
+    let starts = |t: &str| message.starts_with(t);
+    if message.contains("only signed ints can be neg") {
+        Some(13)
+    } else if starts("called `Option::unwrap()` on a `None`") {
+        Some(11)
+    } else if starts("not yet implemented")
+        || starts("internal error: entered unreachable code: what")
+        || starts("index out of bounds")
+    {
+        Some(10)
+    } else {
+        None
+    }
+}
