@@ -36,7 +36,7 @@ pub enum Outcome {
     Refused(u8, usize),
     /// It does not judge this body.
     Outside(Outside),
-    /// It panicked elsewhere, with this message.
+    /// It panicked: by which macro or operation, or with this message.
     Panic(String),
 }
 
@@ -124,13 +124,11 @@ fn walk(s: &'static Session<'static>, a: &'static Arena, body: &Body, file: &obs
             Some((Cycle::Ring, _)) => Outcome::Outside(Outside::Ring(place)),
             _ => Outcome::Outside(Outside::Inside(place)),
         },
-        Err(thrown) => {
-            let message = message(&*thrown);
-            match refusal(&message) {
-                Some(answer) if !want.source => Outcome::Refused(answer, place),
-                _ => Outcome::Panic(message),
-            }
-        }
+        Err(thrown) => match told(&message(&*thrown)) {
+            Some((answer, _)) if !want.source => Outcome::Refused(answer, place),
+            Some((_, by)) => Outcome::Panic(by.to_string()),
+            None => Outcome::Panic(message(&*thrown)),
+        },
     }
 }
 
@@ -144,18 +142,19 @@ fn message(thrown: &(dyn Any + Send)) -> String {
     text.lines().next().unwrap_or("").to_string()
 }
 
-/// Document 01's number for a panic of the source.
-fn refusal(message: &str) -> Option<u8> {
+/// Document 01's number for a panic of the source, and what raised it; none for a panic that was not foreseen.
+fn told(message: &str) -> Option<(u8, &'static str)> {
     let starts = |t: &str| message.starts_with(t);
     if message.contains("only signed ints can be neg") {
-        Some(13)
+        Some((13, "todo!"))
     } else if starts("called `Option::unwrap()` on a `None`") {
-        Some(11)
-    } else if starts("not yet implemented")
-        || starts("internal error: entered unreachable code: what")
-        || starts("index out of bounds")
-    {
-        Some(10)
+        Some((11, "unwrap"))
+    } else if starts("not yet implemented") {
+        Some((10, "todo!"))
+    } else if starts("internal error: entered unreachable code: what") {
+        Some((10, "unreachable!"))
+    } else if starts("index out of bounds") {
+        Some((10, "index"))
     } else {
         None
     }

@@ -15,10 +15,14 @@ usage: reference report [FILE]        what the original gives for a body, in doc
        reference source [FILE]        what the source does with it where it is let go on behind a ring and panics stay panics
        reference rules [FILE]         what document 01 gives for it, by the second program
        reference entries [FILE]       each entry of `unify` in the original: node, expected, got
+       reference families             the families of generated bodies
        reference body SEED INDEX      a generated body
        reference many SEED COUNT      the first COUNT bodies of SEED through both programs: counts, and what differs
+       reference stream WHAT SEED COUNT   the same bodies one behind the other, WHAT being text, read, original or rules:
+                                      as sample_run reads them, and what the reader, the original and the rules give
        reference test FILE..          the cases of these files through both programs
-       reference sample DIR JUDGED.. -- DECLINED..   writes the recorded samples to DIR
+       reference replay DIR           the recorded samples in DIR through the rules, against their reports
+       reference sample DIR FILE..    writes the recorded samples to DIR, with the cases of these files
 ";
 
 fn main() -> ExitCode {
@@ -50,17 +54,17 @@ fn command(args: &[&str]) -> Result<bool, String> {
         ["source", file @ ..] => show(walk(&bytes(file)?, Want { source: true, entries: false }).0),
         ["rules", file @ ..] => show(rules::report(&bytes(file)?)),
         ["entries", file @ ..] => show(walk(&bytes(file)?, Want { source: false, entries: true }).1),
+        ["families"] => show(generate::describe()),
         ["body", seed, index] => {
             let (_, bytes) = generate::body(number(seed)?, number(index)?);
             std::io::stdout().write_all(&bytes).map_err(|e| e.to_string())?;
             Ok(true)
         }
         ["many", seed, count] => Ok(many::run(number(seed)?, number(count)?)),
+        ["stream", what, seed, count] => stream(what, number(seed)?, number(count)?),
         ["test", files @ ..] if !files.is_empty() => test(files),
-        ["sample", dir, files @ ..] => {
-            let at = files.iter().position(|f| *f == "--").ok_or(USAGE)?;
-            write(dir, &read_cases(&files[..at])?, &read_cases(&files[at + 1..])?)
-        }
+        ["replay", dir] => replay(dir),
+        ["sample", dir, files @ ..] => write(dir, &read_cases(files)?),
         _ => Err(USAGE.to_string()),
     }
 }
@@ -100,6 +104,23 @@ fn walk(bytes: &[u8], want: Want) -> (String, String) {
     (run.outcome.text(), entries.collect())
 }
 
+fn stream(what: &str, seed: u64, count: u64) -> Result<bool, String> {
+    let mut out = std::io::BufWriter::new(std::io::stdout().lock());
+    for index in 0..count {
+        let (family, bytes) = generate::body(seed, index);
+        let head = format!("{}-{index}", family.name());
+        let text = match what {
+            "text" => format!("{head} {}\n", text::flat(&bytes)),
+            "read" => format!("== {head}\n{}", sample::read(&bytes)),
+            "original" => format!("== {head}\n{}", cases::report(&bytes).text()),
+            "rules" => format!("== {head}\n{}", rules::report(&bytes)),
+            _ => return Err(USAGE.to_string()),
+        };
+        out.write_all(text.as_bytes()).map_err(|e| e.to_string())?;
+    }
+    Ok(true)
+}
+
 fn read_cases(files: &[&str]) -> Result<Vec<Case>, String> {
     let mut all = Vec::new();
     for file in files {
@@ -124,8 +145,27 @@ fn test(files: &[&str]) -> Result<bool, String> {
     Ok(failed == 0)
 }
 
-fn write(dir: &str, judged: &[Case], by_rules: &[Case]) -> Result<bool, String> {
-    for (name, text) in sample::files(judged, by_rules) {
+fn replay(dir: &str) -> Result<bool, String> {
+    let file = |name: &str| std::fs::read_to_string(format!("{dir}/{name}")).map_err(|e| format!("{dir}/{name}: {e}"));
+    let (bodies, reports) = (file("stdin")?, file("data/reports")?);
+    let mut reports = reports.split("== ").skip(1);
+    let (mut same, mut different) = (0, 0);
+    for line in bodies.lines().filter(|l| !l.is_empty() && !l.starts_with('#')) {
+        let (name, text) = line.split_once(' ').unwrap_or((line, ""));
+        let bytes = text::expand(text).ok_or_else(|| format!("{name}: not a text"))?;
+        if reports.next() == Some(&format!("{name}\n{}", rules::report(&bytes))) {
+            same += 1;
+        } else {
+            different += 1;
+            println!("{name} differs");
+        }
+    }
+    println!("{same} the same, {different} different");
+    Ok(different == 0 && reports.next().is_none())
+}
+
+fn write(dir: &str, cases: &[Case]) -> Result<bool, String> {
+    for (name, text) in sample::files(cases)? {
         let path = format!("{dir}/{name}");
         if let Some(parent) = std::path::Path::new(&path).parent() {
             std::fs::create_dir_all(parent).map_err(|e| format!("{path}: {e}"))?;
