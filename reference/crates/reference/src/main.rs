@@ -4,6 +4,7 @@ mod features;
 mod many;
 mod sample;
 mod text;
+mod wrong;
 
 use cases::Case;
 use original::{THREAD_STACK, Want};
@@ -22,6 +23,7 @@ usage: reference report [FILE]        what the original gives for a body, in doc
                                       as sample_run reads them, and what the reader, the original and the rules give
        reference test FILE..          the cases of these files through both programs
        reference replay DIR           the recorded samples in DIR through the rules, against their reports
+       reference wrong LIST WORKSPACE DIR   wrong versions of the rules' program on the recorded samples
        reference sample DIR FILE..    writes the recorded samples to DIR, with the cases of these files
 ";
 
@@ -64,6 +66,7 @@ fn command(args: &[&str]) -> Result<bool, String> {
         ["stream", what, seed, count] => stream(what, number(seed)?, number(count)?),
         ["test", files @ ..] if !files.is_empty() => test(files),
         ["replay", dir] => replay(dir),
+        ["wrong", list, workspace, dir] => wrong::run(list, workspace, dir),
         ["sample", dir, files @ ..] => write(dir, &read_cases(files)?),
         _ => Err(USAGE.to_string()),
     }
