@@ -24,7 +24,9 @@ fn parse(part: &str) -> Version<'_> {
 }
 
 fn command(program: &str, args: &[&str], at: &Path) -> Result<String, String> {
-    let out = Command::new(program).args(args).current_dir(at).stderr(Stdio::inherit()).output();
+    let mut command = Command::new(program);
+    command.args(args).current_dir(at).env("RUSTFLAGS", "-Awarnings").stderr(Stdio::inherit());
+    let out = command.output();
     let out = out.map_err(|e| format!("{program}: {e}"))?;
     Ok(String::from_utf8_lossy(&out.stdout).into_owned())
 }
