@@ -83,29 +83,41 @@ pub fn refused(r: body::Refusal) -> String {
     format!("answer={},{place}\n", r.answer)
 }
 
+/// Whether what the original gives agrees with the rules' text and with the node of their first ring. Behind a ring, and where
+/// marks grow, the original judges nothing more; that a ring was reached, and in which rule, has to agree.
+pub fn agree(outcome: &Outcome, rules: &str, first_ring: Option<usize>) -> bool {
+    match outcome {
+        Outcome::Outside(Outside::Ring(n)) => first_ring == Some(*n),
+        Outcome::Outside(Outside::Endless) => true,
+        Outcome::Outside(Outside::Inside(n)) => first_ring.is_none() && rules == format!("answer=12,{n}\n"),
+        other => first_ring.is_none() && other.text() == rules,
+    }
+}
+
+/// The node of the rules' first ring, of bytes that the reader accepts.
+pub fn first_ring(bytes: &[u8]) -> Option<usize> {
+    body::read(bytes).ok().and_then(|b| rules::check(&b).first_ring)
+}
+
 /// What differs from what is expected: nothing, if the case passes.
 pub fn faults(case: &Case) -> Vec<String> {
     let mut faults = Vec::new();
-    let mut want = |what: &str, expected: &str, got: &str| {
-        if expected != got {
+    let mut fault = |good: bool, what: &str, expected: &str, got: &str| {
+        if !good {
             faults.push(format!("{what}:\nexpected\n{expected}got\n{got}"));
         }
     };
-    want("rules", &case.expected, &rules::report(&case.bytes));
-    match report(&case.bytes) {
-        // Document 01 alone decides what comes of these.
-        Outcome::Outside(Outside::Ring(_) | Outside::Endless) => {}
-        Outcome::Outside(Outside::Inside(n)) => {
-            want("original, inside itself", &case.expected, &format!("answer=12,{n}\n"))
-        }
-        other => want("original", &case.expected, &other.text()),
-    }
+    let rules = rules::report(&case.bytes);
+    fault(rules == case.expected, "rules", &case.expected, &rules);
+    let (outcome, ring) = (report(&case.bytes), first_ring(&case.bytes));
+    let what = format!("original, the rules' first ring being {ring:?}");
+    fault(agree(&outcome, &case.expected, ring), &what, &case.expected, &outcome.text());
     if let Some(source) = &case.source {
         let got = match body::read(&case.bytes) {
             Ok(b) => original::run(&b, Want { source: true, entries: false }).outcome.text(),
             Err(r) => refused(r),
         };
-        want("source", source, &got);
+        fault(got == *source, "source", source, &got);
     }
     faults
 }

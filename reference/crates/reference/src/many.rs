@@ -1,6 +1,6 @@
 //! Many generated bodies through the original and through the rules: what came of them is counted, and each difference told.
-use crate::cases::{printed, refused};
-use original::{Outcome, Outside, THREAD_STACK, Want};
+use crate::cases::{agree, first_ring, printed, refused};
+use original::{Outcome, THREAD_STACK, Want};
 use std::collections::BTreeMap;
 use std::sync::Mutex;
 use std::sync::atomic::{AtomicU64, Ordering};
@@ -78,13 +78,7 @@ fn one(seed: u64, index: u64, all: &Mutex<Counts>) {
     all.slowest[0] = all.slowest[0].max(((middle - before).as_micros(), index));
     all.slowest[1] = all.slowest[1].max(((after - middle).as_micros(), index));
 
-    let agree = match &outcome {
-        Outcome::Outside(Outside::Ring(_) | Outside::Endless) => true,
-        Outcome::Outside(Outside::Inside(n)) => rules == format!("answer=12,{n}\n"),
-        Outcome::Panic(_) => false,
-        other => other.text() == rules,
-    };
-    if !agree {
+    if !agree(&outcome, &rules, first_ring(&bytes)) {
         let text = format!("{}original\n{}rules\n{rules}", String::from_utf8_lossy(&bytes), outcome.text());
         all.different.push((index, text));
     }

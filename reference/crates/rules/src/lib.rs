@@ -23,8 +23,9 @@ pub struct Checked {
     pub place: Option<usize>,
     /// The whole report, however long, or the answer line alone.
     pub text: String,
-    /// How many equations, or steps of them, succeeded by the ring rule.
+    /// How many equations, or steps of them, succeeded by the ring rule, and the node in whose rule the first did.
     pub rings: usize,
+    pub first_ring: Option<usize>,
     /// The equations of the body, in order, a refused one included.
     pub equations: Vec<Equation>,
 }
@@ -36,7 +37,7 @@ pub fn check(body: &Body) -> Checked {
         Ok(finals) => (0, None, print::report(&walk, &finals)),
         Err(Refused { answer, place }) => (answer, Some(place), print::answer(answer, Some(place))),
     };
-    Checked { answer, place, text, rings: walk.variables.rings, equations: walk.equations }
+    Checked { answer, place, text, rings: walk.variables.rings, first_ring: walk.first_ring, equations: walk.equations }
 }
 
 /// "A body's equations are those its walk raises under these rules, in order".

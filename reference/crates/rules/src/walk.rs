@@ -81,6 +81,8 @@ pub struct Walk<'a> {
     pub extra: Vec<Extra>,
     pub errors: Vec<ErrorRow>,
     pub equations: Vec<Equation>,
+    /// The node in whose rule the ring rule gave success first.
+    pub first_ring: Option<usize>,
 }
 
 impl<'a> Walk<'a> {
@@ -94,6 +96,7 @@ impl<'a> Walk<'a> {
             extra: vec![Extra::Absent; body.nodes.len()],
             errors: Vec::new(),
             equations: Vec::new(),
+            first_ring: None,
         };
         for &param in &body.params {
             if let Node::Param(ty) = body.nodes[param] {
@@ -458,6 +461,9 @@ impl<'a> Walk<'a> {
     /// Raises an equation in the rule of a node; the cause if it mismatches.
     pub fn equation(&mut self, place: usize, expected: usize, got: usize) -> Result<Option<u8>, Refused> {
         let outcome = self.variables.unify(&self.pool, expected, got);
+        if self.variables.rings > 0 {
+            self.first_ring.get_or_insert(place);
+        }
         self.equations.push(Equation { place, expected, got, outcome });
         match outcome {
             Outcome::Success => Ok(None),
