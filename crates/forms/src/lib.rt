@@ -68,7 +68,7 @@ pub const SEGMENT: u8 = 112;
 // The kinds of a form's first three fields and of every further one, and the least and the greatest number of fields.
 pub struct Form(pub u8, pub u8, pub u8, pub u8, pub usize, pub usize);
 
-// The numbers of the forms that other crates look for; those of nodes go from FORM_BOOL to FORM_PATH.
+// The numbers of the forms, as far as other crates look for them; those of nodes go from FORM_BOOL to FORM_PATH.
 pub const FORM_ARRAY: u16 = 0;
 
 pub const FORM_FUN: u16 = 1;
@@ -79,11 +79,45 @@ pub const FORM_FN: u16 = 3;
 
 pub const FORM_BOOL: u16 = 7;
 
+pub const FORM_INT: u16 = 8;
+
+pub const FORM_FLOAT: u16 = 9;
+
+pub const FORM_STR: u16 = 10;
+
+pub const FORM_BIN: u16 = 11;
+
+pub const FORM_UN: u16 = 12;
+
+pub const FORM_FIELD: u16 = 13;
+
+pub const FORM_LIST: u16 = 14;
+
+pub const FORM_INDEX: u16 = 15;
+
+pub const FORM_ASSIGN: u16 = 16;
+
+pub const FORM_OPASSIGN: u16 = 17;
+
+pub const FORM_IF: u16 = 18;
+
+pub const FORM_LOOP: u16 = 19;
+
+pub const FORM_BREAK: u16 = 20;
+
+pub const FORM_CALL: u16 = 21;
+
+pub const FORM_MCALL: u16 = 22;
+
+pub const FORM_RETURN: u16 = 23;
+
 pub const FORM_BLOCK: u16 = 24;
 
 pub const FORM_LET: u16 = 25;
 
 pub const FORM_PARAM: u16 = 26;
+
+pub const FORM_LAMBDA: u16 = 27;
 
 pub const FORM_PATH: u16 = 28;
 

@@ -1,0 +1,4 @@
+pub mod Cells
+pub mod TableLaws
+pub mod EquationLaws
+pub mod InputLaws

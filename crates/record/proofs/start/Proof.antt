@@ -1,0 +1,12 @@
+use Rattle.record.specs.Writes.{started}
+use borrow.Author.Needs.{needs}
+use Rattle.record.proofs.start.Statement.{statement}
+use Rattle.record.proofs.start.Tie as tie
+
+pub start-spec : {M : Type 1} → statement M
+start-spec =
+    tie.close (tie.spec
+    (λ c κs. search needs)
+    (λ c κs. search needs)
+    (λ c. search needs)
+    (λ c. started _ _ _ _ _ (c .before .before .before .before .before .before .start .ensures) (c .before .before .before .before .before .before .start .kept .0) (c .before .before .clear .ensures)))
