@@ -1,0 +1,131 @@
+-- What the tables of the walk over a well-formed body hold at most, one citation each: the limits of document 01 are never exceeded, its levels never run
+-- out, each type line has its number, and functions stand at most 4 deep in one another.
+-- The body is what `type-body` of crate `resolve` says, over the tables that `read_body` leaves on 0 (`WellFormed` of crate `well_formed`), from the
+-- fixed types and no node typed; `Fits` of crate `record` says that no table of a state is over its limit.
+use mathlib.Core.Path.{_≡_}
+use mathlib.Core.List.{List}
+use mathlib.Core.Option.{some}
+use Prim.Native.Nat.{ℕ, _+_, _*_, _<_, _≤_}
+use native.Mathlib.Omega.{arith}
+use lib.ListN.{length}
+use Rattle.theory.specs.Rules.{Mem, row, unify}
+use Rattle.theory.specs.Program.{run}
+use Rattle.theory.specs.Depth.{Functions, bounded, four-enough}
+use Rattle.theory.specs.Start.{start}
+use Rattle.type_table.specs.Sound.{fixed-types}
+use Rattle.refs.specs.declared.Counts.{Counts}
+use Rattle.nodes.specs.Nodes.{fnLine}
+use Rattle.record.specs.Own.{blank}
+use Rattle.record.specs.Steps.{State}
+use Rattle.record.specs.Encodes.{inputTotal, Fits}
+use Rattle.walk.specs.Walk.{typeck-expr}
+use Rattle.resolve.specs.Resolve.{declare-types, bodyWith, type-body}
+use Rattle.well_formed.specs.Good.{WellFormed}
+use Rattle.bounds.specs.Adds.{Larger}
+use Rattle.bounds.specs.Body.{body-cost, body-adds}
+use Rattle.bounds.specs.Levels.{body-levels}
+use Rattle.bounds.specs.Declared.{lineShape}
+use Rattle.bounds.specs.Declared as declared
+use Rattle.bounds.specs.Nesting.{AtEquations, line-row, four-deep, body-rows, body-equations}
+
+-- the state before the walk over a body whose result has the type o
+abbrev pub before : ℕ → State
+before o = start fixed-types (blank o)
+
+-- the state behind it
+abbrev pub after : Counts → List ℕ → List ℕ → ℕ → State
+after n rows cells o = (run (type-body n rows cells) (before o)) .1
+
+module _ (n : Counts) (rows cells : List ℕ) (w : WellFormed n rows cells) (o : ℕ) where
+  -- the tables behind a body are those before it, and what its types and nodes allow
+  grown : Larger (body-cost n) (before o) (after n rows cells o)
+  grown = body-adds n rows cells w .larger (before o)
+
+  -- ── 1. by the types and nodes of the file ──
+
+  -- at most a variable for each node,
+  pub vars-bound : length (after n rows cells o .kinds) ≤ n .nodes
+  unfolding start
+  vars-bound = omega (arith, grown .vars)
+
+  -- the fixed types, a row for each type line and three for each node,
+  pub types-bound : length (after n rows cells o .rows) ≤ 14 + n .types + 3 * n .nodes
+  unfolding start
+  types-bound = omega (arith, grown .rows)
+
+  -- 16 inputs for each type line and one for each node,
+  pub inputs-bound : inputTotal (after n rows cells o .rows) ≤ 16 * n .types + n .nodes
+  unfolding start inputTotal
+  inputs-bound = omega (arith, grown .inputs)
+
+  -- three errors for each node,
+  pub errors-bound : length (after n rows cells o .errs) ≤ 3 * n .nodes
+  unfolding start
+  errors-bound = omega (arith, grown .errors)
+
+  -- and two equations
+  pub equations-bound : length (after n rows cells o .log) ≤ 2 * n .nodes
+  unfolding start
+  equations-bound = omega (arith, grown .equations)
+
+  -- ── 2. document 01's limits ──
+
+  -- at most 1,024 variables
+  pub variables-1024 : length (after n rows cells o .kinds) ≤ 1024
+  variables-1024 = omega (arith, vars-bound, w .limited .nodes)
+
+  -- at most 4,096 made types beside the fixed and the declared ones
+  pub made-types-4096 : length (after n rows cells o .rows) ≤ 14 + n .types + 4096
+  made-types-4096 = omega (arith, types-bound, w .limited .nodes)
+
+  -- at most 8,192 inputs of declared types, and one more for each node
+  pub inputs-8192 : inputTotal (after n rows cells o .rows) ≤ 8192 + n .nodes
+  inputs-8192 = omega (arith, inputs-bound, w .limited .types)
+
+  -- at most 4,096 errors
+  pub errors-4096 : length (after n rows cells o .errs) ≤ 4096
+  errors-4096 = omega (arith, errors-bound, w .limited .nodes)
+
+  -- no table is over its limit
+  pub never-full : Fits (after n rows cells o)
+  never-full = record {
+    rows = omega (arith, types-bound, w .limited .types, w .limited .nodes);
+    vars = variables-1024;
+    inputs = omega (arith, inputs-8192, w .limited .nodes);
+    errors = errors-4096;
+    equations = omega (arith, equations-bound, w .limited .nodes);
+  }
+
+  -- ── 3. levels ──
+
+  -- 64 levels of nodes are enough: BODY is typed by the same program with any more
+  pub levels-64 : (j : ℕ) → typeck-expr (bodyWith n rows cells) 64 (fnLine rows cells .body .0) ≡ typeck-expr (bodyWith n rows cells) (64 + j) (fnLine rows cells .body .0)
+  levels-64 = body-levels n rows cells w
+
+  -- ── 4. type lines ──
+
+  -- the type lines end with an answer,
+  pub types-end : (run (declare-types rows cells (n .types)) (before o)) .0 ≡ some tt
+  types-end = declared.types-end n rows cells w (blank o)
+
+  -- behind them there are 14 types and one for each line,
+  pub types-count : length ((run (declare-types rows cells (n .types)) (before o)) .1 .rows) ≡ 14 + n .types
+  types-count = declared.types-count n rows cells w (blank o)
+
+  -- and a `type` line of the number i is the type i + 14, as `lineShape` of Declared says it,
+  pub type-number : (i : ℕ) → i < n .types → row ((run (declare-types rows cells (n .types)) (before o)) .1 .rows) (14 + i) ≡ lineShape rows cells i
+  type-number = declared.type-number n rows cells w (blank o)
+
+  -- to the end
+  pub type-number-stays : (i : ℕ) → i < n .types → row (after n rows cells o .rows) (14 + i) ≡ lineShape rows cells i
+  type-number-stays = line-row n rows cells w (after n rows cells o .rows) (body-rows n rows cells w (blank o))
+
+  -- ── 5. functions in one another ──
+
+  -- they stand at most 4 deep, and are made of rows without variables and lambdas,
+  pub functions-4 : Functions (after n rows cells o .rows) 4
+  functions-4 = four-deep n rows cells w (after n rows cells o .rows) (body-rows n rows cells w (blank o))
+
+  -- so at each equation the rules that enter at most four functions against lambdas in one another give the same result
+  pub equations-4 : AtEquations (λ s. (k : ℕ) (m : Mem) (x y : ℕ) → bounded (s .rows) (s .kinds) 4 k m x y ≡ unify (s .rows) (s .kinds) k m x y) (type-body n rows cells) (before o)
+  equations-4 = body-equations n rows cells w (blank o) _ (λ s f. four-enough (s .rows) (s .kinds) f)

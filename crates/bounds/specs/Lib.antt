@@ -1,0 +1,13 @@
+pub mod Adds
+pub mod Steps
+pub mod Weights
+pub mod Rules
+pub mod Calls
+pub mod Visits
+pub mod Walk
+pub mod Body
+pub mod Levels
+pub mod Declared
+pub mod Free
+pub mod Nesting
+pub mod Claims
