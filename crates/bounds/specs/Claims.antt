@@ -1,31 +1,37 @@
--- What the tables of the walk over a well-formed body hold at most, one citation each: the limits of document 01 are never exceeded, its levels never run
--- out, each type line has its number, and functions stand at most 4 deep in one another.
+-- What is claimed of the walk over a well-formed body, one citation each: the limits of document 01 are never exceeded, its levels never run out, each type
+-- line has its number, functions stand at most 4 deep in one another; then the promise of `type_body`, and demand 3 for the equations of the body.
 -- The body is what `type-body` of crate `resolve` says, over the tables that `read_body` leaves on 0 (`WellFormed` of crate `well_formed`), from the
 -- fixed types and no node typed; `Fits` of crate `record` says that no table of a state is over its limit.
 use mathlib.Core.Path.{_≡_}
-use mathlib.Core.List.{List}
-use mathlib.Core.Option.{some}
+use mathlib.Core.Logic.{_↔_}
+use mathlib.Core.List.{List, [], _∷_, _++_}
+use mathlib.Core.Option.{none, some}
 use Prim.Native.Nat.{ℕ, _+_, _*_, _<_, _≤_}
 use native.Mathlib.Omega.{arith}
 use lib.ListN.{length}
 use Rattle.theory.specs.Rules.{Mem, row, unify}
-use Rattle.theory.specs.Program.{run}
+use Rattle.theory.specs.Program.{Equation, run}
+use Rattle.theory.specs.Basics.{All}
+use Rattle.theory.specs.Ways.{Way, Kinded, Agrees, Sided, Meets, Went, Failed}
 use Rattle.theory.specs.Depth.{Functions, bounded, four-enough}
 use Rattle.theory.specs.Start.{start}
 use Rattle.type_table.specs.Sound.{fixed-types}
 use Rattle.refs.specs.declared.Counts.{Counts}
 use Rattle.nodes.specs.Nodes.{fnLine}
-use Rattle.record.specs.Own.{blank}
+use Rattle.record.specs.declared.Ruled.{Ruled}
+use Rattle.record.specs.Own.{log-at, blank}
 use Rattle.record.specs.Steps.{State}
 use Rattle.record.specs.Encodes.{inputTotal, Fits}
 use Rattle.walk.specs.Walk.{typeck-expr}
 use Rattle.resolve.specs.Resolve.{declare-types, bodyWith, type-body}
+use Rattle.resolve.specs.Body.{TypedBy, BodyTyped}
 use Rattle.well_formed.specs.Good.{WellFormed}
 use Rattle.bounds.specs.Adds.{Larger}
 use Rattle.bounds.specs.Body.{body-cost, body-adds}
 use Rattle.bounds.specs.Levels.{body-levels}
 use Rattle.bounds.specs.Declared.{lineShape}
 use Rattle.bounds.specs.Declared as declared
+use Rattle.bounds.specs.Demand.{end, without-error, first-failure}
 use Rattle.bounds.specs.Nesting.{AtEquations, line-row, four-deep, body-rows, body-equations}
 
 -- the state before the walk over a body whose result has the type o
@@ -129,3 +135,22 @@ module _ (n : Counts) (rows cells : List ℕ) (w : WellFormed n rows cells) (o :
   -- so at each equation the rules that enter at most four functions against lambdas in one another give the same result
   pub equations-4 : AtEquations (λ s. (k : ℕ) (m : Mem) (x y : ℕ) → bounded (s .rows) (s .kinds) 4 k m x y ≡ unify (s .rows) (s .kinds) k m x y) (type-body n rows cells) (before o)
   equations-4 = body-equations n rows cells w (blank o) _ (λ s f. four-enough (s .rows) (s .kinds) f)
+
+-- ── 6. the promise of `type_body`, and demand 3 ──
+
+-- of a body that was read, in a memory of at least 90,018 cells: the answer is that of the rules, and the memory holds the state in which the body ends
+pub typed-in-memory : (n : Counts) (rows cells : List ℕ) → WellFormed n rows cells → (m m′ : List ℕ) (r : Ruled) → log-at ≤ length m → BodyTyped m m′ r n rows cells → TypedBy m′ r n rows cells
+typed-in-memory n rows cells w m m′ r large t = t .by large (never-full n rows cells w (fnLine rows cells .output .0))
+
+module _ (n : Counts) (rows cells : List ℕ) where
+  -- answered 0 without an error, the sides plain or Diverges got: a way meets all the equations of the body exactly when it agrees with the bindings in which its walk ends,
+  -- and at least one such way exists
+  pub demand-3-without-error : end n rows cells .errs ≡ [] → end n rows cells .stop ≡ none → All (Sided (end n rows cells .rows)) (end n rows cells .log)
+      → ((v : Way) → Kinded (end n rows cells .kinds) v → All (Meets (end n rows cells .rows) v) (end n rows cells .log) ↔ Agrees (end n rows cells .rows) (end n rows cells .mem .binds) v)
+      × ((v : Way) × Kinded (end n rows cells .kinds) v × All (Meets (end n rows cells .rows) v) (end n rows cells .log))
+  demand-3-without-error = without-error n rows cells
+
+  -- whatever the answer: no way meets the equations up to and including the first that failed with cause 1 or was refused 12
+  pub demand-3-first-failure : (later before : List Equation) (q : Equation) → end n rows cells .log ≡ later ++ q ∷ before → Failed (q .answer) → All Went before → All (Sided (end n rows cells .rows)) (q ∷ before)
+      → (v : Way) → Kinded (end n rows cells .kinds) v → All (Meets (end n rows cells .rows) v) (q ∷ before) → ⊥
+  demand-3-first-failure = first-failure n rows cells

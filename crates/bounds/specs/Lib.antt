@@ -10,4 +10,5 @@ pub mod Levels
 pub mod Declared
 pub mod Free
 pub mod Nesting
+pub mod Demand
 pub mod Claims
