@@ -31,6 +31,7 @@ use Rattle.bounds.specs.Rules.{equate-on-adds}
 use Rattle.bounds.specs.Calls.{numbers-length}
 use Rattle.bounds.specs.Visits.{child}
 use Rattle.bounds.specs.Walk.{expr-adds}
+use Rattle.bounds.specs.Declared.{behindTypes}
 
 -- ── declared types ──
 
@@ -158,6 +159,16 @@ resolve-nodes-adds k = each-same (cost 0 1 0 1 0) 0 k _ (λ i l. nothing-then _ 
 
 -- ── a body ──
 
+-- so many variables, type rows, inputs, errors and equations for so many nodes
+abbrev pub nodes-cost : Counts → Cost
+nodes-cost n = cost (n .nodes) (3 * n .nodes) (n .nodes) (3 * n .nodes) (2 * n .nodes)
+
+-- what a body runs behind its type lines adds at most what its nodes allow
+pub behind-types-adds : (n : Counts) (rows cells : List ℕ) → WellFormed n rows cells → Adds (nodes-cost n) (behindTypes n rows cells)
+behind-types-adds n rows cells w =
+    adds-within (search needs)
+    (nothing-then _ (params-adds n rows cells w _) (λ b. then _ (typeck-adds n rows cells w) (λ c. resolve-nodes-adds (n .nodes))))
+
 -- so many variables, type rows, inputs, errors and equations for so many type lines and nodes
 abbrev pub body-cost : Counts → Cost
 body-cost n = cost (n .nodes) (n .types + 3 * n .nodes) (16 * n .types + n .nodes) (3 * n .nodes) (2 * n .nodes)
@@ -165,7 +176,4 @@ body-cost n = cost (n .nodes) (n .types + 3 * n .nodes) (16 * n .types + n .node
 -- a body adds at most what its types and nodes allow
 pub body-adds : (n : Counts) (rows cells : List ℕ) → WellFormed n rows cells → Adds (body-cost n) (type-body n rows cells)
 unfolding type-body
-body-adds n rows cells w =
-    adds-within (search needs)
-    (then _ (declare-types-adds n rows cells w)
-    (λ a. nothing-then _ (params-adds n rows cells w _) (λ b. then _ (typeck-adds n rows cells w) (λ c. resolve-nodes-adds (n .nodes)))))
+body-adds n rows cells w = adds-within (search needs) (then _ (declare-types-adds n rows cells w) (λ a. behind-types-adds n rows cells w))

@@ -1,20 +1,22 @@
 -- What is claimed of the walk over a well-formed body, one citation each: the limits of document 01 are never exceeded, its levels never run out, each type
--- line has its number, functions stand at most 4 deep in one another; then the promise of `type_body`, and demand 3 for the equations of the body.
+-- line has its number, functions stand at most 4 deep in one another, all types and variables are known; then the promise of `type_body`, what its answer
+-- says of the refusal, and demand 3 for the equations of the body.
 -- The body is what `type-body` of crate `resolve` says, over the tables that `read_body` leaves on 0 (`WellFormed` of crate `well_formed`), from the
 -- fixed types and no node typed; `Fits` of crate `record` says that no table of a state is over its limit.
-use mathlib.Core.Path.{_≡_}
+use mathlib.Core.Path.{_≡_, refl}
 use mathlib.Core.Logic.{_↔_}
 use mathlib.Core.List.{List, [], _∷_, _++_}
 use mathlib.Core.Option.{none, some}
 use Prim.Native.Nat.{ℕ, _+_, _*_, _<_, _≤_}
 use native.Mathlib.Omega.{arith}
-use lib.ListN.{length}
+use lib.ListN.{length, drop}
 use Rattle.theory.specs.Rules.{Mem, row, unify}
 use Rattle.theory.specs.Program.{Equation, run}
 use Rattle.theory.specs.Basics.{All}
 use Rattle.theory.specs.Ways.{Way, Kinded, Agrees, Sided, Meets, Went, Failed}
 use Rattle.theory.specs.Depth.{Functions, bounded, four-enough}
 use Rattle.theory.specs.Start.{start}
+use Rattle.type_table.specs.Memory.{tab}
 use Rattle.type_table.specs.Sound.{fixed-types}
 use Rattle.refs.specs.declared.Counts.{Counts}
 use Rattle.nodes.specs.Nodes.{fnLine}
@@ -24,13 +26,15 @@ use Rattle.record.specs.Steps.{State}
 use Rattle.record.specs.Encodes.{inputTotal, Fits}
 use Rattle.walk.specs.Walk.{typeck-expr}
 use Rattle.resolve.specs.Resolve.{declare-types, bodyWith, type-body}
-use Rattle.resolve.specs.Body.{TypedBy, BodyTyped}
+use Rattle.resolve.specs.Body.{first-state, last-state, ends, TypedBy, BodyTyped}
 use Rattle.well_formed.specs.Good.{WellFormed}
 use Rattle.bounds.specs.Adds.{Larger}
 use Rattle.bounds.specs.Body.{body-cost, body-adds}
 use Rattle.bounds.specs.Levels.{body-levels}
 use Rattle.bounds.specs.Declared.{lineShape}
 use Rattle.bounds.specs.Declared as declared
+use Rattle.bounds.specs.Made as made
+use Rattle.bounds.specs.Answered.{answered, unanswered}
 use Rattle.bounds.specs.Demand.{end, without-error, first-failure}
 use Rattle.bounds.specs.Nesting.{AtEquations, line-row, four-deep, body-rows, body-equations}
 
@@ -136,13 +140,45 @@ module _ (n : Counts) (rows cells : List ℕ) (w : WellFormed n rows cells) (o :
   pub equations-4 : AtEquations (λ s. (k : ℕ) (m : Mem) (x y : ℕ) → bounded (s .rows) (s .kinds) 4 k m x y ≡ unify (s .rows) (s .kinds) k m x y) (type-body n rows cells) (before o)
   equations-4 = body-equations n rows cells w (blank o) _ (λ s f. four-enough (s .rows) (s .kinds) f)
 
--- ── 6. the promise of `type_body`, and demand 3 ──
+  -- ── 6. all types and variables ──
+
+  -- all types: the fixed ones, those of the `type` lines, and behind these the made ones,
+  pub all-types : after n rows cells o .rows ≡ fixed-types ++ (tab (lineShape rows cells) (n .types) ++ drop (14 + n .types) (after n rows cells o .rows))
+  all-types = made.all-types n rows cells (blank o) w
+
+  -- the first two there,
+  pub declared-count : 14 + n .types ≤ length (after n rows cells o .rows)
+  declared-count = made.declared-count n rows cells (blank o) w
+
+  -- the made ones at most 4,096,
+  pub made-count : length (drop (14 + n .types) (after n rows cells o .rows)) ≤ 4096
+  made-count = omega (arith, made.made-count n rows cells (blank o) w, w .limited .nodes)
+
+  -- with at most one input for each node
+  pub made-inputs : inputTotal (drop (14 + n .types) (after n rows cells o .rows)) ≤ n .nodes
+  made-inputs = made.made-inputs n rows cells (blank o) w
+
+-- each variable has a kind, a binding or none, a negation mark and an origin or none
+pub variables : (n : Counts) (rows cells : List ℕ) (o : ℕ) → let s = after n rows cells o in (length (s .mem .binds) ≡ length (s .kinds)) × (length (s .mem .marks) ≡ length (s .kinds)) × (length (s .origins) ≡ length (s .kinds))
+variables n rows cells o = (made.binds-count n rows cells (blank o), made.marks-count n rows cells (blank o), made.origins-count n rows cells (blank o))
+
+-- ── 7. the promise of `type_body`, its answer, and demand 3 ──
 
 -- of a body that was read, in a memory of at least 90,018 cells: the answer is that of the rules, and the memory holds the state in which the body ends
 pub typed-in-memory : (n : Counts) (rows cells : List ℕ) → WellFormed n rows cells → (m m′ : List ℕ) (r : Ruled) → log-at ≤ length m → BodyTyped m m′ r n rows cells → TypedBy m′ r n rows cells
 typed-in-memory n rows cells w m m′ r large t = t .by large (never-full n rows cells w (fnLine rows cells .output .0))
 
 module _ (n : Counts) (rows cells : List ℕ) where
+  -- answered 0, there is no refusal
+  pub answered-0 : ends n rows cells → last-state n rows cells .stop ≡ none
+  unfolding start
+  answered-0 = answered (type-body n rows cells) (first-state rows cells) refl tt
+
+  -- not answered 0, there is one
+  pub not-answered-0 : (run (type-body n rows cells) (first-state rows cells)) .0 ≡ none → (k : ℕ) × (p : ℕ) × (last-state n rows cells .stop ≡ some (k, p))
+  unfolding start
+  not-answered-0 = unanswered (type-body n rows cells) (first-state rows cells) refl
+
   -- answered 0 without an error, the sides plain or Diverges got: a way meets all the equations of the body exactly when it agrees with the bindings in which its walk ends,
   -- and at least one such way exists
   pub demand-3-without-error : end n rows cells .errs ≡ [] → end n rows cells .stop ≡ none → All (Sided (end n rows cells .rows)) (end n rows cells .log)

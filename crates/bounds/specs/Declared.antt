@@ -1,4 +1,4 @@
--- The types that the `type` lines of a well-formed body declare: the line i gives the row i + 14, of the shape that the line says. Assumes nothing.
+-- The types that the `type` lines of a well-formed body declare: the line i gives the row i + 14, of the shape that the line says; and what the body runs behind them. Assumes nothing.
 use mathlib.Core.Path.{_≡_, refl, sym, ap, _∙_}
 use mathlib.Core.List.{List, [], _∷_, _++_, map}
 use mathlib.Core.Option.{Option, none, some}
@@ -20,10 +20,10 @@ use Rattle.type_table.specs.Sound.{fixed-types}
 use Rattle.forms.specs.Form.{forms, no-form, formAt, kindAt, key-type, LowType}
 use Rattle.refs.specs.declared.Counts.{Counts}
 use Rattle.refs.specs.Refs.{formIn, firstIn, countIn, valueIn}
-use Rattle.nodes.specs.Nodes.{countBehind, numbersFrom, typeRowOf, typeRowAt}
+use Rattle.nodes.specs.Nodes.{countBehind, numbersFrom, typeRowOf, typeRowAt, fnLine}
 use Rattle.record.specs.Own.{Own}
 use Rattle.record.specs.Steps.{State, Walk, Step, array-of, fn-def, instance, make-function, for-each}
-use Rattle.resolve.specs.Resolve.{declare-type, declare-types}
+use Rattle.resolve.specs.Resolve.{declare-type, declare-types, params, typeck, resolve-nodes, bodyWith, type-body}
 use Rattle.well_formed.specs.Good.{WellFormed, behind}
 use Rattle.well_formed.specs.Counting.{each, each-at}
 use Rattle.well_formed.specs.Levels.{low-type, type-good}
@@ -45,6 +45,13 @@ lineShape rows cells i =
 unfoldable pub declared : List ℕ → List ℕ → ℕ → List Shape
 declared rows cells zero = fixed-types
 declared rows cells (suc k) = declared rows cells k ++ lineShape rows cells k ∷ []
+
+-- what a body runs behind its type lines
+abbrev pub behindTypes : Counts → List ℕ → List ℕ → Step
+behindTypes n rows cells = do
+  _ ← params rows cells (fnLine rows cells .params)
+  _ ← typeck (bodyWith n rows cells) (fnLine rows cells .body .0)
+  resolve-nodes (n .nodes)
 
 -- ── the table ──
 
@@ -331,3 +338,8 @@ module _ (n : Counts) (rows cells : List ℕ) (w : WellFormed n rows cells) wher
     -- and the line i is the type i + 14
     pub type-number : (i : ℕ) → i < n .types → row (behind-types .rows) (14 + i) ≡ lineShape rows cells i
     type-number i h = ap (λ (l : List Shape). row l (14 + i)) types-rows ∙ declared-row rows cells (n .types) i h
+
+    -- a body is what it runs behind its type lines, from the fixed types and one for each line
+    pub body-behind : run (type-body n rows cells) (start fixed-types own) ≡ run (behindTypes n rows cells) (start (declared rows cells (n .types)) own)
+    unfolding type-body
+    body-behind = rw (run-bind (declare-types rows cells (n .types)) (λ u. behindTypes n rows cells) (start fixed-types own), types-declared)

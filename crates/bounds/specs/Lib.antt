@@ -10,5 +10,7 @@ pub mod Levels
 pub mod Declared
 pub mod Free
 pub mod Nesting
+pub mod Made
+pub mod Answered
 pub mod Demand
 pub mod Claims

@@ -12,7 +12,7 @@ use lib.Dec.{ltb}
 use lib.ListN.{length, List·getD-append}
 use lib.Seq.{getD-append-add}
 use Rattle.theory.specs.Rules.{Shape, base, var, arr, ref, fn, fun, lam, err, div, nil, Kind, Out, success, mismatch, kindOrder, refused12, refused13, dry, row}
-use Rattle.theory.specs.Program.{done, refuse, draw, intern, equate, emit, mark, read, write, clip, firstEqual, sane, drawn, appended, emitted, written, refused, marking, raised, pooled, internIf, interned, solved, react, run, _>>=_, run-bind}
+use Rattle.theory.specs.Program.{done, refuse, draw, intern, equate, emit, mark, read, write, clip, firstEqual, sane, drawn, appended, emitted, written, refused, marking, raised, pooled, internIf, interned, solved, react, run, _>>=_}
 use Rattle.theory.specs.Basics.{All, clash}
 use Rattle.theory.specs.Depth.{In, Pure, pure-base, pure-fn, pure-err, pure-div, pure-array, pure-function, Functions}
 use Rattle.theory.specs.Start.{start}
@@ -22,16 +22,16 @@ use Rattle.refs.specs.declared.Counts.{Counts}
 use Rattle.refs.specs.Refs.{formIn, firstIn, countIn, levelsIn, valueIn}
 use Rattle.nodes.specs.declared.TypeRow.{TypeRow}
 use Rattle.nodes.specs.declared.TypeRow.the-variants as row·T
-use Rattle.nodes.specs.Nodes.{numbersFrom, typeRowAt, isFun, fnLine}
+use Rattle.nodes.specs.Nodes.{numbersFrom, typeRowAt, isFun}
 use Rattle.record.specs.declared.ErrorRow.{ErrorRow}
 use Rattle.record.specs.Own.{Own}
 use Rattle.record.specs.Steps.{State, Walk, Step, array-of, fn-def, instance, make-function, for-each}
-use Rattle.resolve.specs.Resolve.{type-of-line, declare-type, declare-types, params, typeck, resolve-nodes, bodyWith, type-body}
+use Rattle.resolve.specs.Resolve.{type-of-line, declare-type, declare-types, bodyWith, type-body}
 use Rattle.body.specs.Body.{levelsOver, deeper}
 use Rattle.well_formed.specs.Good.{WellFormed, kindIn}
 use Rattle.well_formed.specs.Levels.{TypeIn, type-good, type-lower, fun-levels, part-levels}
 use Rattle.bounds.specs.Weights.{kind-by}
-use Rattle.bounds.specs.Declared.{lineShape, declared, declared-length, declared-row, declared-fixed, row-all, Line, array, function, instance-of, definition, line, types-declared}
+use Rattle.bounds.specs.Declared.{lineShape, declared, declared-length, declared-row, declared-fixed, behindTypes, row-all, Line, array, function, instance-of, definition, line, types-declared, body-behind}
 use Rattle.bounds.specs.Free.{MakesNoFun, Free, then-free, params-free, typeck-free, resolve-nodes-free}
 
 -- ── tables that grow by no function type ──
@@ -361,30 +361,23 @@ module _ (n : Counts) (rows cells : List ℕ) (w : WellFormed n rows cells) (l :
 -- ── a body ──
 
 module _ (n : Counts) (rows cells : List ℕ) where
-  -- what follows the declared types
-  abbrev behindTypes : Step
-  behindTypes = do
-    _ ← params rows cells (fnLine rows cells .params)
-    _ ← typeck (bodyWith n rows cells) (fnLine rows cells .body .0)
-    resolve-nodes (n .nodes)
-
-  -- it makes no function type
-  rest-free : Free behindTypes
+  -- what a body runs behind its type lines makes no function type
+  rest-free : Free (behindTypes n rows cells)
   rest-free = then-free _ (params-free rows cells _) (λ u. then-free _ (typeck-free (bodyWith n rows cells) _) (λ v. resolve-nodes-free (n .nodes)))
 
   module _ (w : WellFormed n rows cells) (own : Own) where
     -- the types of a whole body are the declared ones, and then such as are no function types
     pub body-rows : More (declared rows cells (n .types)) ((run (type-body n rows cells) (start fixed-types own)) .1 .rows)
-    unfolding type-body start
+    unfolding start
     body-rows =
-        rw (run-bind (declare-types rows cells (n .types)) (λ u. behindTypes) (start fixed-types own), types-declared n rows cells w own)
-        (run-more (declared rows cells (n .types)) behindTypes (rest-free .by) (start (declared rows cells (n .types)) own) (more-same (declared rows cells (n .types))))
+        rw (body-behind n rows cells w own)
+        (run-more (declared rows cells (n .types)) (behindTypes n rows cells) (rest-free .by) (start (declared rows cells (n .types)) own) (more-same (declared rows cells (n .types))))
 
     -- at each equation of a body functions stand at most 4 deep in one another
     pub body-equations : (P : State → Type 0) → ((s : State) → Functions (s .rows) 4 → P s) → AtEquations P (type-body n rows cells) (start fixed-types own)
     unfolding type-body start
     body-equations P h =
-        at-then P (declare-types rows cells (n .types)) (λ u. behindTypes) (types-silent rows cells (n .types)) (start fixed-types own) tt (start (declared rows cells (n .types)) own)
+        at-then P (declare-types rows cells (n .types)) (λ u. behindTypes n rows cells) (types-silent rows cells (n .types)) (start fixed-types own) tt (start (declared rows cells (n .types)) own)
         (types-declared n rows cells w own)
-        (at-free P (declared rows cells (n .types)) (λ s m. h s (four-deep n rows cells w (s .rows) m)) behindTypes (rest-free .by) (start (declared rows cells (n .types)) own)
+        (at-free P (declared rows cells (n .types)) (λ s m. h s (four-deep n rows cells w (s .rows) m)) (behindTypes n rows cells) (rest-free .by) (start (declared rows cells (n .types)) own)
         (more-same (declared rows cells (n .types))))

@@ -37,11 +37,11 @@ pub const MOST_NODES: u16 = 1024;
 pub const MOST_ERRORS: u16 = 4096;
 
 // Where the regions begin: nodes of six cells, errors of nine, equations of three.
-const NODES_AT: usize = 47010;
+pub const NODES_AT: usize = 47010;
 
-const ERRORS_AT: usize = 53154;
+pub const ERRORS_AT: usize = 53154;
 
-const LOG_AT: usize = 90018;
+pub const LOG_AT: usize = 90018;
 // How many cells the walk needs; what a lent memory has more is the log of equations.
 pub const MEMORY: usize = 90018;
 

@@ -1,0 +1,6 @@
+pub mod CellLaws
+pub mod NodeLaws
+pub mod VarLaws
+pub mod TypeLaws
+pub mod ErrorLaws
+pub mod LogLaws
