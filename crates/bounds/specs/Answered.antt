@@ -19,7 +19,7 @@ abbrev pub Told : {A : Type 0} → Option A × State → Type 0
 Told r = StopBy (r .0) (r .1 .stop)
 
 -- making a type refuses nothing
-interned-stop : (t : Shape) (s : State) → (interned t s) .1 .stop ≡ s .stop
+pub interned-stop : (t : Shape) (s : State) → (interned t s) .1 .stop ≡ s .stop
 unfolding interned appended
 interned-stop t s = by (sane (length (s .rows)) t)
   where

@@ -1,6 +1,6 @@
 -- What is claimed of the walk over a well-formed body, one citation each: the limits of document 01 are never exceeded, its levels never run out, each type
--- line has its number, functions stand at most 4 deep in one another, all types and variables are known; then the promise of `type_body`, what its answer
--- says of the refusal, and demand 3 for the equations of the body.
+-- line has its number, functions stand at most 4 deep in one another, all types and variables are known, each number refers to what is there; then the promise of
+-- `type_body`, what its answer says of the refusal, which number and place that has, and demand 3 for the equations of the body.
 -- The body is what `type-body` of crate `resolve` says, over the tables that `read_body` leaves on 0 (`WellFormed` of crate `well_formed`), from the
 -- fixed types and no node typed; `Fits` of crate `record` says that no table of a state is over its limit.
 use mathlib.Core.Path.{_≡_, refl}
@@ -9,9 +9,10 @@ use mathlib.Core.List.{List, [], _∷_, _++_}
 use mathlib.Core.Option.{none, some}
 use Prim.Native.Nat.{ℕ, _+_, _*_, _<_, _≤_}
 use native.Mathlib.Omega.{arith}
+use borrow.Author.Tests.{lt-ltb}
 use lib.ListN.{length, drop}
-use Rattle.theory.specs.Rules.{Mem, row, unify}
-use Rattle.theory.specs.Program.{Equation, run}
+use Rattle.theory.specs.Rules.{inst, base, fn, Mem, row, unify}
+use Rattle.theory.specs.Program.{Equation, done, intern, run}
 use Rattle.theory.specs.Basics.{All}
 use Rattle.theory.specs.Ways.{Way, Kinded, Agrees, Sided, Meets, Went, Failed}
 use Rattle.theory.specs.Depth.{Functions, bounded, four-enough}
@@ -22,7 +23,7 @@ use Rattle.refs.specs.declared.Counts.{Counts}
 use Rattle.nodes.specs.Nodes.{fnLine}
 use Rattle.record.specs.declared.Ruled.{Ruled}
 use Rattle.record.specs.Own.{log-at, blank}
-use Rattle.record.specs.Steps.{State}
+use Rattle.record.specs.Steps.{State, fn-def, instance}
 use Rattle.record.specs.Encodes.{inputTotal, Fits}
 use Rattle.walk.specs.Walk.{typeck-expr}
 use Rattle.resolve.specs.Resolve.{declare-types, bodyWith, type-body}
@@ -31,10 +32,13 @@ use Rattle.well_formed.specs.Good.{WellFormed}
 use Rattle.bounds.specs.Adds.{Larger}
 use Rattle.bounds.specs.Body.{body-cost, body-adds}
 use Rattle.bounds.specs.Levels.{body-levels}
-use Rattle.bounds.specs.Declared.{lineShape}
+use Rattle.bounds.specs.Declared.{lineShape, behindTypes}
 use Rattle.bounds.specs.Declared as declared
 use Rattle.bounds.specs.Made as made
 use Rattle.bounds.specs.Answered.{answered, unanswered}
+use Rattle.bounds.specs.Refusals.{body-placed}
+use Rattle.bounds.specs.Refers.{Refers, refers}
+use Rattle.bounds.specs.InRows.{InRows, declared-state, body-in-rows}
 use Rattle.bounds.specs.Demand.{end, without-error, first-failure}
 use Rattle.bounds.specs.Nesting.{AtEquations, line-row, four-deep, body-rows, body-equations}
 
@@ -162,7 +166,32 @@ module _ (n : Counts) (rows cells : List ℕ) (w : WellFormed n rows cells) (o :
 pub variables : (n : Counts) (rows cells : List ℕ) (o : ℕ) → let s = after n rows cells o in (length (s .mem .binds) ≡ length (s .kinds)) × (length (s .mem .marks) ≡ length (s .kinds)) × (length (s .origins) ≡ length (s .kinds))
 variables n rows cells o = (made.binds-count n rows cells (blank o), made.marks-count n rows cells (blank o), made.origins-count n rows cells (blank o))
 
--- ── 7. the promise of `type_body`, its answer, and demand 3 ──
+-- ── 7. each number refers to what is there ──
+
+module _ (n : Counts) (rows cells : List ℕ) (w : WellFormed n rows cells) where
+  -- a body is what it runs behind its type lines,
+  pub body-behind-types : run (type-body n rows cells) (first-state rows cells) ≡ run (behindTypes n rows cells) (declared-state n rows cells)
+  body-behind-types = declared.body-behind n rows cells w (blank (fnLine rows cells .output .0))
+
+  -- and there both sides of each equation, what each made type is made of and RAW of each node are rows, so that no number is clipped
+  pub rows-alone : InRows (behindTypes n rows cells) (declared-state n rows cells)
+  rows-alone = body-in-rows n rows cells w
+
+  -- the numbers that the rules read are those of nodes, declared types, definitions and instances of the file,
+  pub numbers-refer : Refers n (bodyWith n rows cells)
+  numbers-refer = refers n rows cells w
+
+  -- each such definition has a type,
+  pub definition-type : (d : ℕ) → d < n .defs → fn-def d ≡ intern (fn d) done
+  unfolding fn-def
+  definition-type d h = rw (lt-ltb d 256 (omega (arith, w .limited .defs)))
+
+  -- and so has each such instance
+  pub instance-type : (k : ℕ) → k < n .insts → instance k ≡ intern (base (inst k)) done
+  unfolding instance
+  instance-type k h = rw (lt-ltb k 64 (omega (arith, w .limited .insts)))
+
+-- ── 8. the promise of `type_body`, its answer, and demand 3 ──
 
 -- of a body that was read, in a memory of at least 90,018 cells: the answer is that of the rules, and the memory holds the state in which the body ends
 pub typed-in-memory : (n : Counts) (rows cells : List ℕ) → WellFormed n rows cells → (m m′ : List ℕ) (r : Ruled) → log-at ≤ length m → BodyTyped m m′ r n rows cells → TypedBy m′ r n rows cells
@@ -178,6 +207,11 @@ module _ (n : Counts) (rows cells : List ℕ) where
   pub not-answered-0 : (run (type-body n rows cells) (first-state rows cells)) .0 ≡ none → (k : ℕ) × (p : ℕ) × (last-state n rows cells .stop ≡ some (k, p))
   unfolding start
   not-answered-0 = unanswered (type-body n rows cells) (first-state rows cells) refl
+
+  -- of a body that was read: its number is 10, 11, 12 or 13, its place a node
+  pub refusal-number-and-place : WellFormed n rows cells → (run (type-body n rows cells) (first-state rows cells)) .0 ≡ none
+      → (k : ℕ) × (p : ℕ) × (last-state n rows cells .stop ≡ some (k, p)) × (10 ≤ k) × (k ≤ 13) × (p < n .nodes)
+  refusal-number-and-place w e = let r = not-answered-0 e in let q = body-placed n rows cells w _ (r .0) (r .1) (r .2) in (r .0, r .1, r .2, q .least, q .most, q .lower)
 
   -- answered 0 without an error, the sides plain or Diverges got: a way meets all the equations of the body exactly when it agrees with the bindings in which its walk ends,
   -- and at least one such way exists

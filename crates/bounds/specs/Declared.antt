@@ -242,7 +242,7 @@ module _ (n : Counts) (rows cells : List ℕ) (w : WellFormed n rows cells) wher
       omega (arith, low-type (behind n key-type i) (kindAt (formAt (formIn rows i)) j) (firstIn rows i + j) rows cells (rw e k) (type-good n rows cells w i h .fields j l))
 
   -- E of an array is a lower row
-  array-lower : (i : ℕ) → i < n .types → formIn rows i ≡ 0 → valueIn cells (firstIn rows i) < 14 + i
+  pub array-lower : (i : ℕ) → i < n .types → formIn rows i ≡ 0 → valueIn cells (firstIn rows i) < 14 + i
   unfolding formAt forms kindAt
   array-lower i h f =
       let l : 1 ≤ countIn rows i = rw f at (type-good n rows cells w i h .least) in
@@ -259,12 +259,12 @@ module _ (n : Counts) (rows cells : List ℕ) (w : WellFormed n rows cells) wher
   fun-most i h f = rw f at (type-good n rows cells w i h .most)
 
   -- OUT of a fun is a lower row,
-  output-lower : (i : ℕ) → i < n .types → formIn rows i ≡ 1 → valueIn cells (firstIn rows i + 1) < 14 + i
+  pub output-lower : (i : ℕ) → i < n .types → formIn rows i ≡ 1 → valueIn cells (firstIn rows i + 1) < 14 + i
   unfolding formAt forms kindAt
   output-lower i h f = low-field i h 1 f 1 (omega (arith, fun-least i h f)) refl
 
   -- and so is each IN
-  inputs-lower : (i : ℕ) → i < n .types → formIn rows i ≡ 1 → (c : ℕ) → c < countIn rows i - 2 → valueIn cells (firstIn rows i + 2 + c) < 14 + i
+  pub inputs-lower : (i : ℕ) → i < n .types → formIn rows i ≡ 1 → (c : ℕ) → c < countIn rows i - 2 → valueIn cells (firstIn rows i + 2 + c) < 14 + i
   unfolding formAt forms
   inputs-lower i h f c l =
       let e : firstIn rows i + 2 + c ≡ firstIn rows i + (2 + c) = omega arith in

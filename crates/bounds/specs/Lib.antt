@@ -8,9 +8,13 @@ pub mod Walk
 pub mod Body
 pub mod Levels
 pub mod Declared
-pub mod Free
+pub mod Refers
+pub mod Confined
+pub mod ConfinedWalk
 pub mod Nesting
+pub mod InRows
 pub mod Made
 pub mod Answered
+pub mod Refusals
 pub mod Demand
 pub mod Claims

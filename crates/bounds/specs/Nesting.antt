@@ -32,7 +32,8 @@ use Rattle.well_formed.specs.Good.{WellFormed, kindIn}
 use Rattle.well_formed.specs.Levels.{TypeIn, type-good, type-lower, fun-levels, part-levels}
 use Rattle.bounds.specs.Weights.{kind-by}
 use Rattle.bounds.specs.Declared.{lineShape, declared, declared-length, declared-row, declared-fixed, behindTypes, row-all, Line, array, function, instance-of, definition, line, types-declared, body-behind}
-use Rattle.bounds.specs.Free.{MakesNoFun, Free, then-free, params-free, typeck-free, resolve-nodes-free}
+use Rattle.bounds.specs.Confined.{IsConfined, Any, any-numbers, any-state, any-known}
+use Rattle.bounds.specs.ConfinedWalk.{behind-types-confined}
 
 -- ── tables that grow by no function type ──
 
@@ -79,16 +80,16 @@ module _ (l : List Shape) where
       by false = m
 
   -- a program that makes no function type
-  run-more : {A : Type 0} (p : Walk A) → MakesNoFun p → (s : State) → More l (s .rows) → More l ((run p s) .1 .rows)
-  unfolding run MakesNoFun emitted written refused marking raised
-  run-more (done a) f s m = m
-  run-more (refuse k n) f s m = m
-  run-more (draw k o g) f s m = run-more (g (length (s .rows))) (f (length (s .rows))) (drawn k o s) (drawn-more k o s m)
-  run-more (intern t g) f s m = run-more (g ((interned t s) .0)) (f .1 ((interned t s) .0)) ((interned t s) .1) (interned-more t s m (f .0))
-  run-more (equate n x y e g) f s m =
+  run-more : {A : Type 0} (N : Counts) (p : Walk A) → IsConfined N any-numbers Any p → (s : State) → More l (s .rows) → More l ((run p s) .1 .rows)
+  unfolding run IsConfined emitted written refused marking raised
+  run-more N (done a) f s m = m
+  run-more N (refuse k n) f s m = m
+  run-more N (draw k o g) f s m = run-more N (g (length (s .rows))) (f (length (s .rows)) tt) (drawn k o s) (drawn-more k o s m)
+  run-more N (intern t g) f s m = run-more N (g ((interned t s) .0)) (f .3 ((interned t s) .0) tt) ((interned t s) .1) (interned-more t s m (f .0))
+  run-more N (equate n x y e g) f s m =
       let a = clip (length (s .rows)) x in
       let b = clip (length (s .rows)) y in
-      by ((solved a b s) .0) (raised a b (solved a b s) s) m (λ c t. run-more (g c) (f c) t)
+      by ((solved a b s) .0) (raised a b (solved a b s) s) m (λ c t. run-more N (g c) (f .4 c) t)
     where
       by : (o : Out) (t : State) → More l (t .rows) → ((c : Bool) (u : State) → More l (u .rows) → More l ((run (g c) u) .1 .rows))
           → More l ((react n o e (λ c u. run (g c) u) t) .1 .rows)
@@ -98,10 +99,10 @@ module _ (l : List Shape) where
       by refused12 t q again = q
       by refused13 t q again = q
       by dry t q again = q
-  run-more (emit e p) f s m = run-more p f (emitted e s) m
-  run-more (mark v p) f s m = run-more p f (marking v s) m
-  run-more (read g) f s m = run-more (g s) (f s) s m
-  run-more (write o p) f s m = run-more p f (written o s) m
+  run-more N (emit e p) f s m = run-more N p f (emitted e s) m
+  run-more N (mark v p) f s m = run-more N p f (marking v s) m
+  run-more N (read g) f s m = run-more N (g s) (f s (any-state s)) s m
+  run-more N (write o p) f s m = run-more N p (f .1) (written o s) m
 
 -- ── at each equation ──
 
@@ -131,17 +132,17 @@ module _ {A : Type 0} (P : State → Type 0) where
   AtEquations (write o p) s = AtEquations p (written o s)
 
 -- a program that makes no function type: what holds of every table that grew by none
-at-free : {A : Type 0} (P : State → Type 0) (l : List Shape) → ((s : State) → More l (s .rows) → P s)
-    → (p : Walk A) → MakesNoFun p → (s : State) → More l (s .rows) → AtEquations P p s
-unfolding AtEquations MakesNoFun emitted written marking raised
-at-free P l h (done a) f s m = tt
-at-free P l h (refuse k n) f s m = tt
-at-free P l h (draw k o g) f s m = at-free P l h (g (length (s .rows))) (f (length (s .rows))) (drawn k o s) (drawn-more l k o s m)
-at-free P l h (intern t g) f s m = at-free P l h (g ((interned t s) .0)) (f .1 ((interned t s) .0)) ((interned t s) .1) (interned-more l t s m (f .0))
-at-free P l h (equate n x y e g) f s m =
+at-confined : {A : Type 0} (P : State → Type 0) (l : List Shape) → ((s : State) → More l (s .rows) → P s)
+    → (N : Counts) (p : Walk A) → IsConfined N any-numbers Any p → (s : State) → More l (s .rows) → AtEquations P p s
+unfolding AtEquations IsConfined emitted written marking raised
+at-confined P l h N (done a) f s m = tt
+at-confined P l h N (refuse k n) f s m = tt
+at-confined P l h N (draw k o g) f s m = at-confined P l h N (g (length (s .rows))) (f (length (s .rows)) tt) (drawn k o s) (drawn-more l k o s m)
+at-confined P l h N (intern t g) f s m = at-confined P l h N (g ((interned t s) .0)) (f .3 ((interned t s) .0) tt) ((interned t s) .1) (interned-more l t s m (f .0))
+at-confined P l h N (equate n x y e g) f s m =
     let a = clip (length (s .rows)) x in
     let b = clip (length (s .rows)) y in
-    (h s m, by ((solved a b s) .0) (raised a b (solved a b s) s) m (λ c t. at-free P l h (g c) (f c) t))
+    (h s m, by ((solved a b s) .0) (raised a b (solved a b s) s) m (λ c t. at-confined P l h N (g c) (f .4 c) t))
   where
     by : (o : Out) (t : State) → More l (t .rows) → ((c : Bool) (u : State) → More l (u .rows) → AtEquations P (g c) u) → Behind o e (λ c u. AtEquations P (g c) u) t
     by success t q again = again true t q
@@ -150,10 +151,10 @@ at-free P l h (equate n x y e g) f s m =
     by refused12 t q again = tt
     by refused13 t q again = tt
     by dry t q again = tt
-at-free P l h (emit e p) f s m = at-free P l h p f (emitted e s) m
-at-free P l h (mark v p) f s m = at-free P l h p f (marking v s) m
-at-free P l h (read g) f s m = at-free P l h (g s) (f s) s m
-at-free P l h (write o p) f s m = at-free P l h p f (written o s) m
+at-confined P l h N (emit e p) f s m = at-confined P l h N p f (emitted e s) m
+at-confined P l h N (mark v p) f s m = at-confined P l h N p f (marking v s) m
+at-confined P l h N (read g) f s m = at-confined P l h N (g s) (f s (any-state s)) s m
+at-confined P l h N (write o p) f s m = at-confined P l h N p (f .1) (written o s) m
 
 -- ── the declared types raise no equation ──
 
@@ -360,24 +361,19 @@ module _ (n : Counts) (rows cells : List ℕ) (w : WellFormed n rows cells) (l :
 
 -- ── a body ──
 
-module _ (n : Counts) (rows cells : List ℕ) where
-  -- what a body runs behind its type lines makes no function type
-  rest-free : Free (behindTypes n rows cells)
-  rest-free = then-free _ (params-free rows cells _) (λ u. then-free _ (typeck-free (bodyWith n rows cells) _) (λ v. resolve-nodes-free (n .nodes)))
+module _ (n : Counts) (rows cells : List ℕ) (w : WellFormed n rows cells) (own : Own) where
+  -- the types of a whole body are the declared ones, and then such as are no function types
+  pub body-rows : More (declared rows cells (n .types)) ((run (type-body n rows cells) (start fixed-types own)) .1 .rows)
+  unfolding start
+  body-rows =
+      rw (body-behind n rows cells w own)
+      (run-more (declared rows cells (n .types)) n (behindTypes n rows cells) (behind-types-confined n rows cells w (any-known n (bodyWith n rows cells)) .by) (start (declared rows cells (n .types)) own) (more-same (declared rows cells (n .types))))
 
-  module _ (w : WellFormed n rows cells) (own : Own) where
-    -- the types of a whole body are the declared ones, and then such as are no function types
-    pub body-rows : More (declared rows cells (n .types)) ((run (type-body n rows cells) (start fixed-types own)) .1 .rows)
-    unfolding start
-    body-rows =
-        rw (body-behind n rows cells w own)
-        (run-more (declared rows cells (n .types)) (behindTypes n rows cells) (rest-free .by) (start (declared rows cells (n .types)) own) (more-same (declared rows cells (n .types))))
-
-    -- at each equation of a body functions stand at most 4 deep in one another
-    pub body-equations : (P : State → Type 0) → ((s : State) → Functions (s .rows) 4 → P s) → AtEquations P (type-body n rows cells) (start fixed-types own)
-    unfolding type-body start
-    body-equations P h =
-        at-then P (declare-types rows cells (n .types)) (λ u. behindTypes n rows cells) (types-silent rows cells (n .types)) (start fixed-types own) tt (start (declared rows cells (n .types)) own)
-        (types-declared n rows cells w own)
-        (at-free P (declared rows cells (n .types)) (λ s m. h s (four-deep n rows cells w (s .rows) m)) (behindTypes n rows cells) (rest-free .by) (start (declared rows cells (n .types)) own)
-        (more-same (declared rows cells (n .types))))
+  -- at each equation of a body functions stand at most 4 deep in one another
+  pub body-equations : (P : State → Type 0) → ((s : State) → Functions (s .rows) 4 → P s) → AtEquations P (type-body n rows cells) (start fixed-types own)
+  unfolding type-body start
+  body-equations P h =
+      at-then P (declare-types rows cells (n .types)) (λ u. behindTypes n rows cells) (types-silent rows cells (n .types)) (start fixed-types own) tt (start (declared rows cells (n .types)) own)
+      (types-declared n rows cells w own)
+      (at-confined P (declared rows cells (n .types)) (λ s m. h s (four-deep n rows cells w (s .rows) m)) n (behindTypes n rows cells) (behind-types-confined n rows cells w (any-known n (bodyWith n rows cells)) .by) (start (declared rows cells (n .types)) own)
+      (more-same (declared rows cells (n .types))))

@@ -1,6 +1,6 @@
 -- When each answer of `check` is given, and what it leaves. Assumes nothing.
 use mathlib.Core.Path.{_≡_, refl, sym, ap, subst, _∙_}
-use mathlib.Core.Logic.{_↔_, ⊎-elim}
+use mathlib.Core.Logic.{⊎-elim}
 use mathlib.Core.List.{List}
 use mathlib.Core.Option.{Option, none, some}
 use mathlib.Core.Bool.{Bool, true, false, cond, false≢true}
@@ -15,14 +15,14 @@ use Rattle.forms.specs.declared.Fault.{Fault}
 use Rattle.refs.specs.declared.Counts.{Counts}
 use Rattle.body.specs.declared.Answer.{Answer as Reading}
 use Rattle.body.specs.declared.Answer.the-variants as reading
-use Rattle.body.specs.Body.{most-bytes, rows-length, cells-length, bodyOf}
+use Rattle.body.specs.Body.{most-bytes, rows-length, cells-length}
 use Rattle.record.specs.Steps.{State}
 use Rattle.resolve.specs.Resolve.{type-body}
-use Rattle.resolve.specs.Body.{first-state, last-state, ends}
+use Rattle.resolve.specs.Body.{first-state, last-state}
+use Rattle.well_formed.specs.Good.{WellFormed}
 use Rattle.well_formed.specs.Claims as reader
-use Rattle.bounds.specs.Claims.{not-answered-0}
+use Rattle.bounds.specs.Claims.{refusal-number-and-place}
 use Rattle.checker.specs.declared.Totals.{Totals}
-use Rattle.checker.specs.declared.Answer.{Answer}
 use Rattle.checker.specs.declared.Answer.the-variants as answer
 use Rattle.checker.specs.Check.{Lent, cleared, tooShort, Held, held, totals, filled, endedBy, typed, readingOf, readBy, checkOf}
 
@@ -42,6 +42,11 @@ module _ (s : List ℕ) (h : length s ≤ most-bytes) where
   not-lacking : readingOf s .answer ≡ reading.ShortTable → ⊥
   unfolding readingOf
   not-lacking e = ⊎-elim (not-fewer rows-length) (not-fewer cells-length) (reader.when-2 s (replicate rows-length 0) (replicate cells-length 0) .0 e .1)
+
+-- the tables of a body that was read are well-formed
+pub read-well-formed : (s : List ℕ) (n : Counts) → readingOf s .answer ≡ reading.Body n → WellFormed n (readingOf s .rows) (readingOf s .cells)
+unfolding readingOf
+read-well-formed s = reader.well-formed-on-0 s (replicate rows-length 0) (replicate cells-length 0)
 
 -- ── the five cases ──
 
@@ -67,7 +72,7 @@ pub record Cases (s : List ℕ) (l : Lent) (P : Held → Type 0) : Type 0 where
   pub refused : length s ≤ most-bytes → tooShort l ≡ false → (x : Fault) (k : ℕ) → readingOf s .answer ≡ reading.Refused x k → P (held (answer.Refused x k) (cleared l))
   -- 10 to 13
   pub declined : length s ≤ most-bytes → tooShort l ≡ false → (n : Counts) (k p : ℕ) → readingOf s .answer ≡ reading.Body n → lastOf s n .stop ≡ some (k, p)
-      → P (held (answer.Declined k (record { 0 = p })) (cleared l))
+      → (10 ≤ k) × (k ≤ 13) × (p < n .nodes) → P (held (answer.Declined k (record { 0 = p })) (cleared l))
   -- 0
   pub checked : length s ≤ most-bytes → tooShort l ≡ false → (n : Counts) → readingOf s .answer ≡ reading.Body n → endOf s n ≡ some tt
       → P (held (answer.Checked (totals n (lastOf s n))) (tablesOf s l n))
@@ -78,8 +83,8 @@ module _ (s : List ℕ) (l : Lent) (P : Held → Type 0) (c : Cases s l P) where
       → P (endedBy n (readingOf s .rows) (readingOf s .cells) o (lastOf s n) l)
   by-end h q n e (some u) g = c .checked h q n e g
   by-end h q n e none g =
-      let t = not-answered-0 n (readingOf s .rows) (readingOf s .cells) g in
-      rw (t .2) (c .declined h q n (t .0) (t .1) e (t .2))
+      let t = refusal-number-and-place n (readingOf s .rows) (readingOf s .cells) (read-well-formed s n e) g in
+      rw (t .2) (c .declined h q n (t .0) (t .1) e (t .2) (t .3, t .4, t .5))
 
   -- a file that is not too long, in tables that are long enough
   by-reading : length s ≤ most-bytes → tooShort l ≡ false → (a : Reading) → readingOf s .answer ≡ a → P (readBy a (readingOf s .rows) (readingOf s .cells) l)
@@ -123,8 +128,11 @@ pub record On10to13 (s : List ℕ) (l : Lent) (k p : ℕ) (u : Lent) : Type 0 wh
   pub n : Counts
   -- the reader takes the file
   pub read : readingOf s .answer ≡ reading.Body n
-  -- the rules end in this refusal
+  -- the rules end in this refusal, of this number
   pub refusal : lastOf s n .stop ≡ some (k, p)
+  pub number : (10 ≤ k) × (k ≤ 13)
+  -- at a node of the body
+  pub node : p < n .nodes
   -- every table is zero throughout
   pub tables : u ≡ cleared l
 
@@ -135,7 +143,7 @@ module _ (s : List ℕ) (l : Lent) where
     long = λ h t e. apart (cc);
     short = λ h q t e. apart (cc);
     refused = λ h q x k r t e. apart (cc);
-    declined = λ h q n k p r z t e. apart (cc);
+    declined = λ h q n k p r z y t e. apart (cc);
     checked = λ h q n r z t e.
         let g : totals n (lastOf s n) ≡ t = cc in
         subst (λ (v : Totals). On0 s l v (tablesOf s l n)) g (record { read = r; ended = z; counts = refl; tables = refl });
@@ -147,10 +155,17 @@ module _ (s : List ℕ) (l : Lent) where
     long = λ h k p e. apart (cc);
     short = λ h q k p e. apart (cc);
     refused = λ h q x j r k p e. apart (cc);
-    declined = λ h q n j v r z k p e.
+    declined = λ h q n j v r z y k p e.
         let a : j ≡ k = cc in
         let b : _≡_ {A = NodeId} (record { 0 = v }) p = cc in
-        record { n = n; read = r; refusal = z ∙ ap (λ (i : ℕ). some (i, v)) a ∙ ap (λ (i : NodeId). some (k, i .0)) b; tables = refl };
+        record {
+          n = n;
+          read = r;
+          refusal = z ∙ ap (λ (i : ℕ). some (i, v)) a ∙ ap (λ (i : NodeId). some (k, i .0)) b;
+          number = (rw a at (y .0), rw a at (y .1));
+          node = subst (λ (i : NodeId). i .0 < n .nodes) b (y .2);
+          tables = refl;
+        };
     checked = λ h q n r z k p e. apart (cc);
   })
 
@@ -163,7 +178,7 @@ module _ (s : List ℕ) (l : Lent) where
         let a : y ≡ x = cc in
         let b : j ≡ k = cc in
         (r ∙ ap (λ (i : Fault). reading.Refused i j) a ∙ ap (λ (i : ℕ). reading.Refused x i) b, refl);
-    declined = λ h q n j v r z x k e. apart (cc);
+    declined = λ h q n j v r z y x k e. apart (cc);
     checked = λ h q n r z x k e. apart (cc);
   })
 
@@ -173,7 +188,7 @@ module _ (s : List ℕ) (l : Lent) where
     long = λ h e. (h, refl);
     short = λ h q e. apart (cc);
     refused = λ h q x k r e. apart (cc);
-    declined = λ h q n k p r z e. apart (cc);
+    declined = λ h q n k p r z y e. apart (cc);
     checked = λ h q n r z e. apart (cc);
   })
 
@@ -182,7 +197,7 @@ module _ (s : List ℕ) (l : Lent) where
     long = λ h. refl;
     short = λ h q. absurd (omega arith);
     refused = λ h q x k r. absurd (omega arith);
-    declined = λ h q n k p r z. absurd (omega arith);
+    declined = λ h q n k p r z y. absurd (omega arith);
     checked = λ h q n r z. absurd (omega arith);
   })
 
@@ -192,7 +207,7 @@ module _ (s : List ℕ) (l : Lent) where
     long = λ h e. apart (cc);
     short = λ h q e. (h, q, refl);
     refused = λ h q x k r e. apart (cc);
-    declined = λ h q n k p r z e. apart (cc);
+    declined = λ h q n k p r z y e. apart (cc);
     checked = λ h q n r z e. apart (cc);
   })
 
@@ -201,6 +216,6 @@ module _ (s : List ℕ) (l : Lent) where
     long = λ h. absurd (omega arith);
     short = λ h q. refl;
     refused = λ h q x k r. absurd (false≢true (sym q ∙ t));
-    declined = λ h q n k p r z. absurd (false≢true (sym q ∙ t));
+    declined = λ h q n k p r z y. absurd (false≢true (sym q ∙ t));
     checked = λ h q n r z. absurd (false≢true (sym q ∙ t));
   })

@@ -1,43 +1,28 @@
 -- The types, kinds and bindings that are read of the tables on 0 are those of the state in which the rules end. Assumes nothing.
-use mathlib.Core.Path.{_≡_, refl, sym, ap, _∙_}
+use mathlib.Core.Path.{_≡_, refl, sym}
 use mathlib.Core.List.{List, [], _∷_, _++_}
-use mathlib.Core.Bool.{Bool, true, false}
-use Prim.Native.Nat.{ℕ, suc, zero, _+_, _-_, _≤_, _<_}
+use Prim.Native.Nat.{ℕ, suc, zero, _+_, _-_}
 use native.Mathlib.Omega.{arith}
-use lib.ListN.{length, getD, replicate, length-drop, length-append, length-replicate, getD-replicate, List·getD-append, List·getD-eq-default}
-use lib.Seq.{getD-append-add}
-use lib.Dec.{ltb}
-use borrow.Author.Tests.{ltb-true, ltb-false}
-use Rattle.theory.specs.Rules.{Shape}
-use Rattle.type_table.specs.Memory.{tab}
+use lib.ListN.{length, getD, replicate, length-drop}
 use Rattle.type_table.specs.Tables.{tab-ext}
 use Rattle.refs.specs.declared.Counts.{Counts}
 use Rattle.refs.specs.Refs.{formIn, firstIn, countIn, valueIn}
 use Rattle.nodes.specs.Nodes.{fnLine, numbersFrom}
 use Rattle.record.specs.Steps.{State}
-use Rattle.record.specs.Encodes.{inputTotal}
 use Rattle.resolve.specs.Body.{last-state}
 use Rattle.well_formed.specs.Good.{WellFormed}
+use Rattle.well_formed.specs.Zeros.{zero-at}
 use Rattle.bounds.specs.Declared.{lineShape}
-use Rattle.bounds.specs.Claims.{all-types, declared-count, made-count, made-inputs, variables, never-full}
+use Rattle.bounds.specs.Claims.{all-types, made-count, variables}
 use Rattle.tables.specs.Rows.{padded}
-use Rattle.tables.specs.Vars.{varTable}
-use Rattle.tables.specs.Types.{typeTable}
-use Rattle.tables.specs.Read.{madeAt}
 use Rattle.tables.specs.Back.{kinds-back, binds-back, made-back}
-use Rattle.checker.specs.Check.{Lent, vars-length, tooShort, firstMade, madeTypes, totals, filled}
+use Rattle.checker.specs.Check.{Lent, firstMade, madeTypes, totals, filled}
 use Rattle.checker.specs.Handed.{typesHeld, kindsHeld, bindsHeld}
 
 -- ── zeros behind a table are read as before ──
 
--- a zero, or nothing
-zero-at : (n i : ℕ) → getD (replicate {A = ℕ} n 0) i 0 ≡ 0
-zero-at zero i = refl
-zero-at (suc n) zero = refl
-zero-at (suc n) (suc i) = zero-at n i
-
 -- a cell
-cell-padded : (k : ℕ) (t : List ℕ) (i : ℕ) → getD (padded k t) i 0 ≡ getD t i 0
+pub cell-padded : (k : ℕ) (t : List ℕ) (i : ℕ) → getD (padded k t) i 0 ≡ getD t i 0
 cell-padded k t i = by t i (k - length t)
   where
     by : (t : List ℕ) (i n : ℕ) → getD (t ++ replicate n 0) i 0 ≡ getD t i 0

@@ -1,8 +1,8 @@
 -- Demand 3 for `check`: about the equations that the file raises and the bindings in the tables that are handed back. Assumes nothing but what each statement says.
-use mathlib.Core.Path.{_≡_, refl, sym, ap, _∙_}
+use mathlib.Core.Path.{_≡_, refl, sym, ap, subst, _∙_}
 use mathlib.Core.Logic.{_↔_}
 use mathlib.Core.List.{List, [], _∷_, _++_}
-use mathlib.Core.Option.{none, some}
+use mathlib.Core.Option.{some}
 use Prim.Native.Nat.{ℕ}
 use native.Mathlib.Omega.{arith}
 use lib.ListN.{length, length-append}
@@ -12,16 +12,17 @@ use Rattle.theory.specs.Ways.{Way, Kinded, Agrees, Sided, Meets, Went, Failed}
 use Rattle.refs.specs.declared.Counts.{Counts}
 use Rattle.body.specs.declared.Answer.{Answer as Reading}
 use Rattle.body.specs.declared.Answer.the-variants as reading
-use Rattle.body.specs.Body.{rows-length, cells-length}
 use Rattle.well_formed.specs.Good.{WellFormed}
+use Rattle.well_formed.specs.Zeros.{ZeroBehind}
 use Rattle.well_formed.specs.Claims as reader
 use Rattle.bounds.specs.Claims as walk
 use Rattle.checker.specs.declared.Totals.{Totals}
 use Rattle.checker.specs.declared.Answer.the-variants as answer
-use Rattle.checker.specs.Check.{Lent, Held, totals, readingOf, checkOf}
+use Rattle.checker.specs.Check.{Lent, totals, readingOf, checkOf}
 use Rattle.checker.specs.File.{stateBy, stateOf, equationsIn, equationsOf, typesIn, typesOf, kindsIn, kindsOf}
 use Rattle.checker.specs.Handed.{typesHeld, kindsHeld, bindsHeld}
-use Rattle.checker.specs.Answers.{lastOf, tablesOf, On0, on-0}
+use Rattle.checker.specs.Answers.{lastOf, tablesOf, read-well-formed, On0, on-0}
+use Rattle.checker.specs.Limits.{Limited, limited, Zero, zero-behind}
 use Rattle.checker.specs.Back.{types-held, kinds-held, binds-held}
 
 -- a list without elements
@@ -34,10 +35,10 @@ none-there : (after before : List Equation) (q : Equation) → [] ≡ after ++ q
 none-there after before q e = omega (arith, length-append after (q ∷ before), ap length e)
 
 module _ (s : List ℕ) where
-  -- the tables of a body that was read are well-formed
-  read-well-formed : (n : Counts) → readingOf s .answer ≡ reading.Body n → WellFormed n (readingOf s .rows) (readingOf s .cells)
+  -- the tables of a body that was read are zero behind their used rows
+  read-zero : (n : Counts) → readingOf s .answer ≡ reading.Body n → ZeroBehind n (readingOf s .rows) (readingOf s .cells)
   unfolding readingOf
-  read-well-formed = reader.well-formed-on-0 s _ _
+  read-zero = reader.zero-behind-on-0 s _ _
 
   -- the state of a body that was read
   state-is : (n : Counts) → readingOf s .answer ≡ reading.Body n → stateOf s ≡ some (lastOf s n)
@@ -58,23 +59,52 @@ module _ (s : List ℕ) where
       by reading.ShortTable = λ after before q e. absurd (none-there after before q e)
       by (reading.Refused x k) = λ after before q e. absurd (none-there after before q e)
 
--- answered 0 without an error, each equation with plain sides or Diverges as its got side: a way meets all equations of the file exactly when it agrees with the bindings
--- that are handed back, and at least one such way exists
-pub exactly : (s : List ℕ) (l : Lent) (t : Totals) → checkOf s l .answer ≡ answer.Checked t → t .errors ≡ 0 → let u = checkOf s l .tables in
-    All (Sided (typesHeld t u)) (equationsOf s)
-    → ((w : Way) → Kinded (kindsHeld t u) w → All (Meets (typesHeld t u) w) (equationsOf s) ↔ Agrees (typesHeld t u) (bindsHeld t u) w)
-    × ((w : Way) × Kinded (kindsHeld t u) w × All (Meets (typesHeld t u) w) (equationsOf s))
-exactly s l t e z =
-    let o = on-0 s l t e in
-    let n : Counts = t .declared in
-    let f = read-well-formed s n (o .read) in
-    let rows = readingOf s .rows in
-    let cells = readingOf s .cells in
-    let g = walk.answered-0 n rows cells (o .ended) in
-    let k : lastOf s n .errs ≡ [] = no-elements (lastOf s n .errs) (ap (λ (v : Totals). v .errors) (sym (o .counts)) ∙ z) in
-    let a = walk.demand-3-without-error n rows cells k g in
-    let types : typesHeld t (checkOf s l .tables) ≡ lastOf s n .rows = ap (typesHeld t) (o .tables) ∙ ap (λ (v : Totals). typesHeld v (tablesOf s l n)) (o .counts) ∙ types-held n rows cells f l in
-    let kinds : kindsHeld t (checkOf s l .tables) ≡ lastOf s n .kinds = ap (kindsHeld t) (o .tables) ∙ ap (λ (v : Totals). kindsHeld v (tablesOf s l n)) (o .counts) ∙ kinds-held n rows cells f l in
-    let binds : bindsHeld t (checkOf s l .tables) ≡ lastOf s n .mem .binds = ap (bindsHeld t) (o .tables) ∙ ap (λ (v : Totals). bindsHeld v (tablesOf s l n)) (o .counts) ∙ binds-held n rows cells f l in
-    let log : equationsOf s ≡ lastOf s n .log = ap equationsIn (state-is s n (o .read)) in
-    rw (types, kinds, binds, log) a
+module _ (s : List ℕ) (l : Lent) (t : Totals) (e : checkOf s l .answer ≡ answer.Checked t) where
+  -- what is known on 0
+  abbrev o : On0 s l t (checkOf s l .tables)
+  o = on-0 s l t e
+
+  -- the tables of declarations are well-formed
+  good : WellFormed (t .declared) (readingOf s .rows) (readingOf s .cells)
+  good = read-well-formed s (t .declared) (o .read)
+
+  -- a fact of the totals and tables of the state in which the rules end is one of those that are handed back
+  handed : (P : Totals → Lent → Type 0) → P (totals (t .declared) (lastOf s (t .declared))) (tablesOf s l (t .declared)) → P t (checkOf s l .tables)
+  handed P h = subst (λ (u : Lent). P t u) (sym (o .tables)) (subst (λ (v : Totals). P v (tablesOf s l (t .declared))) (sym (o .counts)) h)
+
+  -- the totals are within the limits
+  pub limits : Limited t
+  limits = handed (λ v u. Limited v) (limited (t .declared) (readingOf s .rows) (readingOf s .cells) good)
+
+  -- behind the used rows all is zero
+  pub zero : Zero t (checkOf s l .tables)
+  zero = handed Zero (zero-behind (t .declared) (readingOf s .rows) (readingOf s .cells) good (read-zero s (t .declared) (o .read)) l)
+
+  -- the types that are handed back
+  types : typesHeld t (checkOf s l .tables) ≡ lastOf s (t .declared) .rows
+  types = handed (λ v u. typesHeld v u ≡ lastOf s (t .declared) .rows) (types-held (t .declared) (readingOf s .rows) (readingOf s .cells) good l)
+
+  -- the kinds of the variables
+  kinds : kindsHeld t (checkOf s l .tables) ≡ lastOf s (t .declared) .kinds
+  kinds = handed (λ v u. kindsHeld v u ≡ lastOf s (t .declared) .kinds) (kinds-held (t .declared) (readingOf s .rows) (readingOf s .cells) good l)
+
+  -- their bindings
+  binds : bindsHeld t (checkOf s l .tables) ≡ lastOf s (t .declared) .mem .binds
+  binds = handed (λ v u. bindsHeld v u ≡ lastOf s (t .declared) .mem .binds) (binds-held (t .declared) (readingOf s .rows) (readingOf s .cells) good l)
+
+  -- types and kinds are those of the file
+  pub held-types : (typesHeld t (checkOf s l .tables) ≡ typesOf s) × (kindsHeld t (checkOf s l .tables) ≡ kindsOf s)
+  held-types = (types ∙ sym (ap typesIn (state-is s (t .declared) (o .read))), kinds ∙ sym (ap kindsIn (state-is s (t .declared) (o .read))))
+
+  -- answered 0 without an error, each equation with plain sides or Diverges as its got side: a way meets all equations of the file exactly when it agrees with the bindings
+  -- that are handed back, and at least one such way exists
+  pub exactly : t .errors ≡ 0 → let u = checkOf s l .tables in
+      All (Sided (typesHeld t u)) (equationsOf s)
+      → ((w : Way) → Kinded (kindsHeld t u) w → All (Meets (typesHeld t u) w) (equationsOf s) ↔ Agrees (typesHeld t u) (bindsHeld t u) w)
+      × ((w : Way) × Kinded (kindsHeld t u) w × All (Meets (typesHeld t u) w) (equationsOf s))
+  exactly z =
+      let n : Counts = t .declared in
+      let k : lastOf s n .errs ≡ [] = no-elements (lastOf s n .errs) (ap (λ (v : Totals). v .errors) (sym (o .counts)) ∙ z) in
+      let log : equationsOf s ≡ lastOf s n .log = ap equationsIn (state-is s n (o .read)) in
+      let a = walk.demand-3-without-error n (readingOf s .rows) (readingOf s .cells) k (walk.answered-0 n (readingOf s .rows) (readingOf s .cells) (o .ended)) in
+      rw (types, kinds, binds, log) a

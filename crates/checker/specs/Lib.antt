@@ -4,4 +4,6 @@ pub mod File
 pub mod Handed
 pub mod Answers
 pub mod Back
+pub mod Limits
 pub mod Demand
+pub mod Claims

@@ -46,7 +46,15 @@ pub enum Answer {
 // ── lengths ──
 
 // Some lent table is below its length.
-fn too_short(rows: &[u16], cells: &[u16], nodes: &[u16], vars: &[u16], types: &[u16], errors: &[u16], memory: &[u16]) -> bool
+fn too_short(
+    rows: &[u16],
+    cells: &[u16],
+    nodes: &[u16],
+    vars: &[u16],
+    types: &[u16],
+    errors: &[u16],
+    memory: &[u16],
+) -> bool
     ensures { λ r. ⌜ r ≡ tooShort (lent (now (rows .entry)) (now (cells .entry)) (now (nodes .entry)) (now (vars .entry)) (now (types .entry)) (now (errors .entry)) [] (now (memory .entry))) ⌝ }
 {
     if rows.len() < body::ROWS {
@@ -109,7 +117,16 @@ fn count(n: Counts, c: Record) -> Totals
 }
 
 // The tables of a body that was typed, from the memory.
-fn fill(m: &[u16], c: Record, n: Counts, nodes: &mut [u16], vars: &mut [u16], types: &mut [u16], errors: &mut [u16], log: &mut [u16])
+fn fill(
+    m: &[u16],
+    c: Record,
+    n: Counts,
+    nodes: &mut [u16],
+    vars: &mut [u16],
+    types: &mut [u16],
+    errors: &mut [u16],
+    log: &mut [u16],
+)
     ensures { λ _. ⌜ Filled (now (m .entry)) c n (now (nodes .entry)) (now (vars .entry)) (now (types .entry)) (now (errors .entry)) (now (log .entry)) (now (nodes .exit)) (now (vars .exit)) (now (types .exit)) (now (errors .exit)) (now (log .exit)) ⌝ }
 {
     let k = n.nodes;
@@ -123,7 +140,14 @@ fn fill(m: &[u16], c: Record, n: Counts, nodes: &mut [u16], vars: &mut [u16], ty
 }
 
 // Every table that is handed back, the log and the memory zero throughout.
-fn clear(nodes: &mut [u16], vars: &mut [u16], types: &mut [u16], errors: &mut [u16], log: &mut [u16], memory: &mut [u16])
+fn clear(
+    nodes: &mut [u16],
+    vars: &mut [u16],
+    types: &mut [u16],
+    errors: &mut [u16],
+    log: &mut [u16],
+    memory: &mut [u16],
+)
     ensures { λ _. ⌜ Cleared (now (nodes .entry)) (now (vars .entry)) (now (types .entry)) (now (errors .entry)) (now (log .entry)) (now (memory .entry)) (now (nodes .exit)) (now (vars .exit)) (now (types .exit)) (now (errors .exit)) (now (log .exit)) (now (memory .exit)) ⌝ }
 {
     tables::clear(nodes);
@@ -137,7 +161,17 @@ fn clear(nodes: &mut [u16], vars: &mut [u16], types: &mut [u16], errors: &mut [u
 // ── a file ──
 
 // Types a body that was read, and fills the tables.
-fn type_read(rows: &mut [u16], cells: &mut [u16], n: Counts, nodes: &mut [u16], vars: &mut [u16], types: &mut [u16], errors: &mut [u16], log: &mut [u16], memory: &mut [u16]) -> Answer
+fn type_read(
+    rows: &mut [u16],
+    cells: &mut [u16],
+    n: Counts,
+    nodes: &mut [u16],
+    vars: &mut [u16],
+    types: &mut [u16],
+    errors: &mut [u16],
+    log: &mut [u16],
+    memory: &mut [u16],
+) -> Answer
     ensures { λ r. ⌜ TypedRead n (lent (now (rows .entry)) (now (cells .entry)) (now (nodes .entry)) (now (vars .entry)) (now (types .entry)) (now (errors .entry)) (now (log .entry)) (now (memory .entry))) r (lent (now (rows .exit)) (now (cells .exit)) (now (nodes .exit)) (now (vars .exit)) (now (types .exit)) (now (errors .exit)) (now (log .exit)) (now (memory .exit))) ⌝ }
 {
     match resolve::type_body(rows, cells, memory, n) {
@@ -157,7 +191,17 @@ fn type_read(rows: &mut [u16], cells: &mut [u16], n: Counts, nodes: &mut [u16], 
 }
 
 // Checks a file, in tables of declarations that have just their lengths.
-fn check_exact(s: &[u8], rows: &mut [u16], cells: &mut [u16], nodes: &mut [u16], vars: &mut [u16], types: &mut [u16], errors: &mut [u16], log: &mut [u16], memory: &mut [u16]) -> Answer
+fn check_exact(
+    s: &[u8],
+    rows: &mut [u16],
+    cells: &mut [u16],
+    nodes: &mut [u16],
+    vars: &mut [u16],
+    types: &mut [u16],
+    errors: &mut [u16],
+    log: &mut [u16],
+    memory: &mut [u16],
+) -> Answer
     ensures { λ r. ⌜ CheckedExact (now (s .entry)) (lent (now (rows .entry)) (now (cells .entry)) (now (nodes .entry)) (now (vars .entry)) (now (types .entry)) (now (errors .entry)) (now (log .entry)) (now (memory .entry))) r (lent (now (rows .exit)) (now (cells .exit)) (now (nodes .exit)) (now (vars .exit)) (now (types .exit)) (now (errors .exit)) (now (log .exit)) (now (memory .exit))) ⌝ }
 {
     match body::read_body(s, rows, cells) {
@@ -172,7 +216,17 @@ fn check_exact(s: &[u8], rows: &mut [u16], cells: &mut [u16], nodes: &mut [u16],
 }
 
 // Checks a file.
-pub fn check(s: &[u8], rows: &mut [u16], cells: &mut [u16], nodes: &mut [u16], vars: &mut [u16], types: &mut [u16], errors: &mut [u16], log: &mut [u16], memory: &mut [u16]) -> Answer
+pub fn check(
+    s: &[u8],
+    rows: &mut [u16],
+    cells: &mut [u16],
+    nodes: &mut [u16],
+    vars: &mut [u16],
+    types: &mut [u16],
+    errors: &mut [u16],
+    log: &mut [u16],
+    memory: &mut [u16],
+) -> Answer
     ensures { λ r. ⌜ held r (lent (now (rows .exit)) (now (cells .exit)) (now (nodes .exit)) (now (vars .exit)) (now (types .exit)) (now (errors .exit)) (now (log .exit)) (now (memory .exit))) ≡ checkOf (now (s .entry)) (lent (now (rows .entry)) (now (cells .entry)) (now (nodes .entry)) (now (vars .entry)) (now (types .entry)) (now (errors .entry)) (now (log .entry)) (now (memory .entry))) ⌝ }
 {
     if body::MOST_BYTES < s.len() {
@@ -185,5 +239,15 @@ pub fn check(s: &[u8], rows: &mut [u16], cells: &mut [u16], nodes: &mut [u16], v
     let b = body::CELLS;
     tables::zero_from(rows, a);
     tables::zero_from(cells, b);
-    check_exact(s, &mut rows[..a], &mut cells[..b], nodes, vars, types, errors, log, memory)
+    check_exact(
+        s,
+        &mut rows[..a],
+        &mut cells[..b],
+        nodes,
+        vars,
+        types,
+        errors,
+        log,
+        memory,
+    )
 }

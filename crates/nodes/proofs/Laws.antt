@@ -1,6 +1,6 @@
 -- What each return of a reading function shows, and each turn of its loop, over plain variables.
-use mathlib.Core.Path.{_≡_, refl, sym, ap, _∙_}
-use mathlib.Core.List.{List}
+use mathlib.Core.Path.{_≡_, refl, sym, _∙_}
+use mathlib.Core.List.{List, [], _∷_}
 use mathlib.Core.Bool.{Bool, true, false}
 use Prim.Native.Nat.{ℕ, suc, zero, _+_, _-_, _<_, _≤_}
 use native.Mathlib.Omega.{arith}
@@ -23,6 +23,7 @@ use Rattle.nodes.specs.declared.Node.{Node}
 use Rattle.nodes.specs.declared.Node.the-variants as form
 use Rattle.nodes.specs.declared.TypeRow.{TypeRow}
 use Rattle.nodes.specs.Nodes.{fieldIn, behind, numbersFrom, nodeOf, nodeAt, typeRowOf, typeRowAt, shapeInputs, defInputs, item, itemsOf, nth, namedFrom, asType, fieldType, asArr, ofFunctions, bindsFor, named, methodIn, methodFrom, failedFrom}
+use Rattle.nodes.specs.Numbers.{length-items}
 use Rattle.nodes.specs.Shapes.{row-inputs, row-element, row-is-fun, row-fun, row-lam, row-arr}
 
 -- where one more is to come, that one comes first
@@ -80,51 +81,45 @@ type-row-is rows cells i h f k a b r hq fq kq aq bq e = rw (aq, bq, hq, kq, fq, 
 
 -- ── signatures ──
 
--- there are as many numbers as were asked for
-pub length-numbers : (cells : List ℕ) (j k : ℕ) → length (numbersFrom cells j k) ≡ k
-unfolding numbersFrom
-length-numbers cells j zero = refl
-length-numbers cells j (suc k) = ap suc (length-numbers cells (suc j) k)
+-- L j k are the numbers g j, g (j + 1) and on, k of them
+module _ (L : ℕ → ℕ → List ℕ) (g : ℕ → ℕ) (none : (j : ℕ) → L j 0 ≡ []) (more : (j k : ℕ) → L j (suc k) ≡ g j ∷ L (suc j) k) where
+  -- the number i of those from j on is g (j + i)
+  nth-there : (j k i : ℕ) → i < k → type.Of (record { 0 = g (j + i) }) ≡ nth (L j k) i
+  nth-there j zero i h = absurd (omega arith)
+  nth-there j (suc k) zero h = let e : j + 0 ≡ j = omega arith in rw (more j k, e)
+  nth-there j (suc k) (suc i) h = let e : j + suc i ≡ suc j + i = omega arith in rw (more j k, e) (nth-there (suc j) k i (omega arith))
 
--- and as many inputs
-pub length-inputs : (m : List ℕ) (f k : ℕ) → length (inputsFrom m f k) ≡ k
-unfolding inputsFrom
-length-inputs m f zero = refl
-length-inputs m f (suc k) = ap suc (length-inputs m (suc f) k)
+  -- behind the last number there is none
+  nth-behind : (j k i : ℕ) → k ≤ i → type.Absent ≡ nth (L j k) i
+  nth-behind j zero i h = rw (none j)
+  nth-behind j (suc k) zero h = absurd (omega arith)
+  nth-behind j (suc k) (suc i) h = rw (more j k) (nth-behind (suc j) k i (omega arith))
 
 -- the number i of those from j on stands at j + i
-pub nth-numbers : (cells : List ℕ) (j k i : ℕ) → i < k → type.Of (record { 0 = valueIn cells (j + i) }) ≡ nth (numbersFrom cells j k) i
+nth-numbers : (cells : List ℕ) (j k i : ℕ) → i < k → type.Of (record { 0 = valueIn cells (j + i) }) ≡ nth (numbersFrom cells j k) i
 unfolding numbersFrom
-nth-numbers cells j zero i h = absurd (omega arith)
-nth-numbers cells j (suc k) zero h = let e : j + 0 ≡ j = omega arith in rw e
-nth-numbers cells j (suc k) (suc i) h = let e : j + suc i ≡ suc j + i = omega arith in rw e (nth-numbers cells (suc j) k i (omega arith))
+nth-numbers cells = nth-there (numbersFrom cells) (valueIn cells) (λ j. refl) (λ j k. refl)
 
 -- behind the last number there is none
-pub no-number : (cells : List ℕ) (j k i : ℕ) → k ≤ i → type.Absent ≡ nth (numbersFrom cells j k) i
+no-number : (cells : List ℕ) (j k i : ℕ) → k ≤ i → type.Absent ≡ nth (numbersFrom cells j k) i
 unfolding numbersFrom
-no-number cells j zero i h = refl
-no-number cells j (suc k) zero h = absurd (omega arith)
-no-number cells j (suc k) (suc i) h = no-number cells (suc j) k i (omega arith)
+no-number cells = nth-behind (numbersFrom cells) (valueIn cells) (λ j. refl) (λ j k. refl)
 
 -- the input i of those from f on stands at f + i
 pub nth-inputs : (m : List ℕ) (f k i : ℕ) → i < k → type.Of (record { 0 = cell m (inputs-at + (f + i)) }) ≡ nth (inputsFrom m f k) i
 unfolding inputsFrom
-nth-inputs m f zero i h = absurd (omega arith)
-nth-inputs m f (suc k) zero h = let e : f + 0 ≡ f = omega arith in rw e
-nth-inputs m f (suc k) (suc i) h = let e : f + suc i ≡ suc f + i = omega arith in rw e (nth-inputs m (suc f) k i (omega arith))
+nth-inputs m = nth-there (inputsFrom m) (λ f. cell m (inputs-at + f)) (λ f. refl) (λ f k. refl)
 
 -- behind the last input there is none
 pub no-input : (m : List ℕ) (f k i : ℕ) → k ≤ i → type.Absent ≡ nth (inputsFrom m f k) i
 unfolding inputsFrom
-no-input m f zero i h = refl
-no-input m f (suc k) zero h = absurd (omega arith)
-no-input m f (suc k) (suc i) h = no-input m (suc f) k i (omega arith)
+no-input m = nth-behind (inputsFrom m) (λ f. cell m (inputs-at + f)) (λ f. refl) (λ f k. refl)
 
 -- the items t are IN of the definition d
 module _ (rows cells : List ℕ) (d : ℕ) (t : Items) (tq : t ≡ defInputs rows d) where
   -- there are as many inputs as items
   pub length-def : t .count ≡ length (itemsOf cells (defInputs rows d))
-  length-def = rw tq (sym (length-numbers cells ((defInputs rows d) .first + (defInputs rows d) .from) ((defInputs rows d) .count)))
+  length-def = rw tq (sym (length-items cells (defInputs rows d)))
 
   -- the input i is the item i
   pub def-input-in : (i v : ℕ) → i < t .count → v ≡ item cells t i → type.Of (record { 0 = v }) ≡ nth (itemsOf cells (defInputs rows d)) i

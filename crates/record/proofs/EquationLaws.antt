@@ -25,7 +25,8 @@ use Rattle.record.specs.declared.Equated.{Equated}
 use Rattle.record.specs.declared.Equated.the-variants as equated
 use Rattle.record.specs.Own.{log-at, most-errors}
 use Rattle.record.specs.Steps.{State, caused, error, equation}
-use Rattle.record.specs.Encodes.{answerNumber, Logged, Encodes, Fits, Runs, Stops, Equates}
+use Rattle.record.specs.Encodes.{answerNumber, Logged, Encodes, Fits, Runs, Equates}
+use Rattle.record.specs.Runs.{encodes-refused}
 use Rattle.record.specs.Answers.{oneEquation, logWritten, Logs, withCause, Fails}
 use Rattle.record.specs.Behind.{Behind, behind-sound, behind-state}
 use Rattle.record.specs.Regions.{own-kept, errors-kept, logged-kept, length-errors}
@@ -111,11 +112,6 @@ fits-before e s f = record { rows = f .rows; vars = f .vars; inputs = f .inputs;
 fits-refused : (k n : ℕ) (s : State) → Fits (refused k n s) → Fits s
 unfolding refused
 fits-refused k n s f = record { rows = f .rows; vars = f .vars; inputs = f .inputs; errors = f .errors; equations = f .equations }
-
--- the end of a walk is held where its state is
-encodes-refused : (m : List ℕ) (c : Record) (s : State) (k n : ℕ) → Encodes m c s → Encodes m c (refused k n s)
-unfolding refused stateOf
-encodes-refused m c s k n e = record { size = e .size; sound = e .sound; tables = ap (refused k n) (e .tables); inputs = e .inputs; own = e .own; errors = e .errors; equations = e .equations; logged = e .logged }
 
 -- the number and the node of a refusal
 stops-with : (k n : ℕ) (s : State) → refused k n s .stop ≡ some (k, n)
@@ -212,12 +208,16 @@ module _ (m w : List ℕ) (c : Record) (x y : TypeId) (r : Answer) (p : Solved m
   unfolding equation run
   reacts {s} e n err = ap (λ (o : Out). react n o (caused err) (λ b t. (some b, t)) (after s)) (sym (answer e))
 
+  -- the number of the answer
+  numbered : (s : State) (e : Encodes m c s) {o : Answer} → r ≡ o → answerNumber (outOf o) ≡ answerNumber ((result s) .0)
+  numbered s e q = ap answerNumber (sym (ap outOf q) ∙ answer e)
+
   -- the equation is met
   pub equation-met : r ≡ Success → (n : ℕ) (err : ErrorRow) (m′ : List ℕ) (d : Record) → Logs w c (x .0) (y .0) 0 m′ d → Equates m c m′ n (equated.Met d) (equation n (x .0) (y .0) err)
   equation-met q n err m′ d logs = record {
     by = record {
       ran = λ s e f. let h : run (equation n (x .0) (y .0) err) s ≡ (some true, after s) = rw q at (reacts e n err) in
-          rw h (refl, noted e (rw h at f) m′ d 0 logs (ap answerNumber (sym (ap outOf q) ∙ answer e)));
+          rw h (refl, noted e (rw h at f) m′ d 0 logs (numbered s e q));
     };
   }
 
@@ -228,47 +228,32 @@ module _ (m w : List ℕ) (c : Record) (x y : TypeId) (r : Answer) (p : Solved m
       let g : Fits (after s) = fits-before (withCause err k) (after s) f in
       fails (omega (arith, e .equations, g .equations)) .ran (after s) (noted e g (logWritten w c (x .0) (y .0) k) (oneEquation c) k (λ h. (refl, refl)) q) f .1
 
+  module _ (k n : ℕ) (err : ErrorRow) (is : (s : State) → Encodes m c s → k ≡ answerNumber ((result s) .0)) where
+    -- the equation failed with the CAUSE k
+    failed-by : ((s : State) → Encodes m c s → run (equation n (x .0) (y .0) err) s ≡ (some false, emitted (withCause err k) (after s))) → (m′ : List ℕ) (z : Equated) → Fails w c (x .0) (y .0) k err m′ z → Equates m c m′ n z (equation n (x .0) (y .0) err)
+    failed-by g m′ (equated.Met d) h = absurd h
+    failed-by g m′ (equated.Failed d) h = record { by = record { ran = λ s e f. rw (g s e) (refl, failing e k err m′ d (is s e) h (rw (g s e) at f)) } }
+    failed-by g m′ (equated.Refused d a) h = absurd h
+
+    -- the equation is refused with k
+    refused-by : ((s : State) → Encodes m c s → run (equation n (x .0) (y .0) err) s ≡ (none, refused k n (after s))) → (m′ : List ℕ) (d : Record) → Logs w c (x .0) (y .0) k m′ d → Equates m c m′ n (equated.Refused d k) (equation n (x .0) (y .0) err)
+    refused-by g m′ d logs = record { by = record { stopped = λ s e f. rw (g s e) (refl, stops-with k n (after s), encodes-refused k n (noted e (fits-refused k n (after s) (rw (g s e) at f)) m′ d k logs (is s e))) } }
+
   -- the equation failed with CAUSE 1
   pub equation-other : r ≡ Mismatch Other → (n : ℕ) (err : ErrorRow) (m′ : List ℕ) (z : Equated) → Fails w c (x .0) (y .0) 1 err m′ z → Equates m c m′ n z (equation n (x .0) (y .0) err)
-  equation-other q n err m′ (equated.Met d) h = absurd h
-  equation-other q n err m′ (equated.Failed d) h = record {
-    by = record {
-      ran = λ s e f.
-          let g : run (equation n (x .0) (y .0) err) s ≡ (some false, emitted (withCause err 1) (after s)) = rw q at (reacts e n err) in
-          rw g (refl, failing e 1 err m′ d (ap answerNumber (sym (ap outOf q) ∙ answer e)) h (rw g at f));
-    };
-  }
-  equation-other q n err m′ (equated.Refused d k) h = absurd h
+  equation-other q n err = failed-by 1 n err (λ s e. numbered s e q) (λ s e. rw q at (reacts e n err))
 
   -- the equation failed with CAUSE 2
   pub equation-order : r ≡ Mismatch KindOrder → (n : ℕ) (err : ErrorRow) (m′ : List ℕ) (z : Equated) → Fails w c (x .0) (y .0) 2 err m′ z → Equates m c m′ n z (equation n (x .0) (y .0) err)
-  equation-order q n err m′ (equated.Met d) h = absurd h
-  equation-order q n err m′ (equated.Failed d) h = record {
-    by = record {
-      ran = λ s e f.
-          let g : run (equation n (x .0) (y .0) err) s ≡ (some false, emitted (withCause err 2) (after s)) = rw q at (reacts e n err) in
-          rw g (refl, failing e 2 err m′ d (ap answerNumber (sym (ap outOf q) ∙ answer e)) h (rw g at f));
-    };
-  }
-  equation-order q n err m′ (equated.Refused d k) h = absurd h
+  equation-order q n err = failed-by 2 n err (λ s e. numbered s e q) (λ s e. rw q at (reacts e n err))
 
   -- the equation is refused with 12
   pub equation-12 : r ≡ Refused12 → (n : ℕ) (err : ErrorRow) (m′ : List ℕ) (d : Record) → Logs w c (x .0) (y .0) 12 m′ d → Equates m c m′ n (equated.Refused d 12) (equation n (x .0) (y .0) err)
-  equation-12 q n err m′ d logs = record {
-    by = record {
-      stopped = λ s e f. let h : run (equation n (x .0) (y .0) err) s ≡ (none, refused 12 n (after s)) = rw q at (reacts e n err) in
-          rw h (refl, stops-with 12 n (after s), encodes-refused m′ d (after s) 12 n (noted e (fits-refused 12 n (after s) (rw h at f)) m′ d 12 logs (ap answerNumber (sym (ap outOf q) ∙ answer e))));
-    };
-  }
+  equation-12 q n err = refused-by 12 n err (λ s e. numbered s e q) (λ s e. rw q at (reacts e n err))
 
   -- the equation is refused with 13
   pub equation-13 : r ≡ Refused13 → (n : ℕ) (err : ErrorRow) (m′ : List ℕ) (d : Record) → Logs w c (x .0) (y .0) 13 m′ d → Equates m c m′ n (equated.Refused d 13) (equation n (x .0) (y .0) err)
-  equation-13 q n err m′ d logs = record {
-    by = record {
-      stopped = λ s e f. let h : run (equation n (x .0) (y .0) err) s ≡ (none, refused 13 n (after s)) = rw q at (reacts e n err) in
-          rw h (refl, stops-with 13 n (after s), encodes-refused m′ d (after s) 13 n (noted e (fits-refused 13 n (after s) (rw h at f)) m′ d 13 logs (ap answerNumber (sym (ap outOf q) ∙ answer e))));
-    };
-  }
+  equation-13 q n err = refused-by 13 n err (λ s e. numbered s e q) (λ s e. rw q at (reacts e n err))
 
 -- ── the error of a failed equation ──
 

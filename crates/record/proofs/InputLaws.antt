@@ -3,10 +3,10 @@ use mathlib.Core.Path.{_≡_, refl, sym, ap, _∙_}
 use mathlib.Core.List.{List, [], _∷_, _++_, map, append-nil, append-assoc}
 use mathlib.Core.Option.{Option, none, some}
 use mathlib.Core.Bool.{true, _&&_}
-use Prim.Native.Nat.{ℕ, suc, zero, _+_, _-_, _≤_, _<_}
+use Prim.Native.Nat.{ℕ, suc, _+_, _-_, _≤_, _<_}
 use native.Mathlib.Omega.{arith}
 use native.Mathlib.Nat.{zero-add}
-use lib.ListN.{length, length-append, getD}
+use lib.ListN.{length, length-append, length-map, getD}
 use lib.Dec.{ltb}
 use borrow.Author.Tests.{lt-leb, lt-ltb, le-ltb}
 use Rattle.theory.specs.Rules.{Shape, fun, lam, lambda-head, param-head}
@@ -32,7 +32,9 @@ use Rattle.record.specs.Answers.{typeIn, pushAll}
 use Rattle.record.specs.Regions.{all-raws-kept}
 use Rattle.record.specs.InTables.{InTables, tables-same, tables-on, tables-push, beside-parts}
 use Rattle.record.specs.Pooled.{interned-not, interned-more}
-use Rattle.record.proofs.TableLaws.{rows-are, rows-counted, given, total-more}
+use Rattle.record.specs.Grows.{total-append}
+use Rattle.record.specs.Runs.{rows-are}
+use Rattle.record.proofs.TableLaws.{rows-counted, given}
 
 -- ── the inputs that are pushed ──
 
@@ -92,11 +94,6 @@ clipped-below : (n : ℕ) (xs : List ℕ) → 0 < n → allBelow n (map (clip n)
 clipped-below n [] h = refl
 clipped-below n (x ∷ xs) h = rw (lt-ltb (clip n x) n (clip-in n x h), clipped-below n xs h)
 
--- a map keeps the length
-length-map : (f : ℕ → ℕ) (xs : List ℕ) → length (map f xs) ≡ length xs
-length-map f [] = refl
-length-map f (x ∷ xs) = ap suc (length-map f xs)
-
 -- the inputs from the first pushed on
 pushed-are : (m u : List ℕ) (c : Counts) (xs : List ℕ) → ((f k : ℕ) → f + k ≡ c .inputs → inputsFrom u f (k + length xs) ≡ inputsFrom m f k ++ map (clip (c .types)) xs) → inputsFrom u (c .inputs) (length xs) ≡ map (clip (c .types)) xs
 unfolding inputsFrom
@@ -118,17 +115,18 @@ module _ (T : List ℕ → Shape) (o : ℕ) (parts : (n : ℕ) (i : List ℕ) �
   parts-more l =
       let n = c .counts .types in
       let whole : sane n (T ins) ≡ true = parts n ins ∙ rw (lt-ltb o n l, clipped-below n xs (omega (arith, e .sound .laid .fixed))) in
-      (rw (e .tables) at (interned-more (T ins) m (c .counts) s whole (first-none 0 (rowsOf m n) (T ins) (unmade ins)))) ∙ ap (λ (rows : List Shape). rows ++ T ins ∷ []) (rows-are e)
+      (rw (e .tables) at (interned-more (T ins) m (c .counts) s whole (first-none 0 (rowsOf m n) (T ins) (unmade ins)))) ∙ ap (λ (rows : List Shape). rows ++ T ins ∷ []) (sym (rows-are e))
 
   -- its inputs are pushed to u, and then it is made
   pub parts-gives : (h a : ℕ) (u m′ : List ℕ) (d : Counts) (x : Made) (r : Given) → r ≡ withMade c x → o < c .counts .types → pushed d u ≡ pushAll m (c .counts) xs → made x m′ ≡ partsIn u d h a o (c .counts .inputs) (length xs)
       → (Sound u d → Sound (partsIn u d h a o (c .counts .inputs) (length xs) .memory) (partsIn u d h a o (c .counts .inputs) (length xs) .counts))
       → (Sound u d → d .types < most-types → c .counts .inputs + length xs ≤ d .inputs → answered (partsIn u d h a o (c .counts .inputs) (length xs)) s ≡ interned (T (inputsFrom u (c .counts .inputs) (length xs))) (stateOf u d s))
       → Fits ((interned (T ins) s) .1) → (_≡_ {A = Option ℕ} (some ((interned (T ins) s) .0)) (some (r .ty .0))) × Encodes m′ (r .record) ((interned (T ins) s) .1)
+  unfolding inputTotal
   parts-gives h a u m′ d x r q l p is keeps law f = by (rw (← p) at (pushes m (c .counts) xs (e .sound) room))
     where
       total : inputTotal ((interned (T ins) s) .1 .rows) ≡ c .counts .inputs + length xs
-      total = ap inputTotal (parts-more l) ∙ total-more (s .rows) (T ins) ∙ omega (arith, e .inputs, count ins, length-map (clip (c .counts .types)) xs)
+      total = ap inputTotal (parts-more l) ∙ total-append (s .rows) (T ins ∷ []) ∙ omega (arith, e .inputs, count ins, length-map xs (clip (c .counts .types)))
 
       room : c .counts .inputs + length xs ≤ most-inputs
       room = omega (arith, total, f .inputs)
@@ -173,7 +171,7 @@ unfolding make-lambda run
 lambda-gives m u m′ c d x r a o k ps q l n p is = record {
   ran = λ s e f. let xs = map (typeIn m) ps in
       let i = c .counts .inputs in
-      let z : k ≡ length xs = sym (length-map (typeIn m) ps ∙ n) in
+      let z : k ≡ length xs = sym (length-map ps (typeIn m) ∙ n) in
       rw (params e ps)
       (parts-gives (lam a o) o (λ n i. refl) (λ i. refl) (λ i. refl) m c xs s e lambda-head a u m′ d x r q l p (rw z at is) (λ h. lambda-keeps h a o i (length xs)) (λ h room inputs. lambda-step h s a o i (length xs) room inputs) (rw (params e ps) at f));
 }
@@ -201,16 +199,6 @@ unfolding make-function run
 function-none m c a o xs l = record { ran = λ s e f. rw (parts-none (fun a o) o (λ n i. refl) (λ i. refl) (λ i. refl) m c [] s e l (map (clip (length (s .rows))) xs)) (refl, e) }
 
 -- ── the loops that push ──
-
--- as many numbers as fields
-length-numbers : (cells : List ℕ) (j k : ℕ) → length (numbersFrom cells j k) ≡ k
-unfolding numbersFrom
-length-numbers cells j zero = refl
-length-numbers cells j (suc k) = ap suc (length-numbers cells (suc j) k)
-
--- as many items as their count
-pub length-items : (cells : List ℕ) (t : Items) → length (itemsOf cells t) ≡ t .count
-length-items cells t = length-numbers cells (t .first + t .from) (t .count)
 
 -- the items from i on are pushed, each as g has it
 abbrev pub restPushed : (ℕ → ℕ) → List ℕ → Counts → List ℕ → Items → ℕ → ℕ → Counting

@@ -1,9 +1,9 @@
 -- What the functions that make a type, draw a variable or set a mark do is their step of a program. Over plain variables.
 use mathlib.Core.Path.{_≡_, refl, sym, ap, _∙_}
-use mathlib.Core.List.{List, [], _∷_, _++_}
+use mathlib.Core.List.{List, [], _∷_}
 use mathlib.Core.Option.{Option, none, some}
 use mathlib.Core.Bool.{Bool, true, false, cond}
-use Prim.Native.Nat.{ℕ, _+_, _≤_, _<_}
+use Prim.Native.Nat.{ℕ, _≤_, _<_}
 use native.Mathlib.Omega.{arith}
 use native.Mathlib.Decide.{decLt}
 use lib.ListN.{length, length-append}
@@ -15,7 +15,7 @@ use Rattle.type_table.specs.declared.Counts.{Counts}
 use Rattle.type_table.specs.declared.Made.{Made}
 use Rattle.type_table.specs.declared.Kind.{Kind}
 use Rattle.type_table.specs.declared.Origin.{Origin}
-use Rattle.type_table.specs.Memory.{most-types, most-vars, kindOf, numbered, rowsOf}
+use Rattle.type_table.specs.Memory.{most-types, most-vars, kindOf, numbered}
 use Rattle.type_table.specs.Made.{kindNumber, originNumber, marking, Making, making, made, drawIn, poolCell, internIn, internOf}
 use Rattle.type_table.specs.Tables.{length-rows, length-kinds}
 use Rattle.type_table.specs.Sound.{Sound, stateOf, answered}
@@ -24,6 +24,8 @@ use Rattle.record.specs.declared.Record.{Record}
 use Rattle.record.specs.declared.Given.{Given}
 use Rattle.record.specs.Steps.{State, new-infer-var, array-of, ref-to, fn-def, instance, mark-var}
 use Rattle.record.specs.Encodes.{inputCount, inputTotal, Encodes, Runs, Gives}
+use Rattle.record.specs.Grows.{total-append}
+use Rattle.record.specs.Runs.{rows-are}
 use Rattle.record.specs.Operations.{withCounts, withMade}
 use Rattle.record.specs.Regions.{own-kept, errors-kept, logged-kept}
 use Rattle.record.specs.InTables.{InTables, tables-same, Beside, beside-draw, beside-intern, beside-of, tables-mark}
@@ -32,14 +34,9 @@ use Rattle.record.specs.Pooled.{array-fits, ref-fits, fn-fits, instance-
 -- ── the tables of a state ──
 
 module _ {m : List ℕ} {c : Record} {s : State} (e : Encodes m c s) where
-  -- the rows are those of the memory
-  pub rows-are : rowsOf m (c .counts .types) ≡ s .rows
-  unfolding stateOf
-  rows-are = ap (λ (t : State). t .rows) (e .tables)
-
-  -- they are counted
+  -- the rows are counted
   pub rows-counted : length (s .rows) ≡ c .counts .types
-  rows-counted = sym (ap length rows-are) ∙ length-rows m (c .counts .types)
+  rows-counted = ap length (rows-are e) ∙ length-rows m (c .counts .types)
 
   -- the variables are counted
   pub vars-counted : length (s .kinds) ≡ c .counts .vars
@@ -74,19 +71,13 @@ module _ {m : List ℕ} {c : Record} {s : State} (e : Encodes m c s) where
 
 -- ── inputs ──
 
--- a row more has its inputs
-pub total-more : (rows : List Shape) (t : Shape) → inputTotal (rows ++ t ∷ []) ≡ inputTotal rows + inputCount t
-unfolding inputTotal
-total-more [] t = omega arith
-total-more (u ∷ l) t = rw (total-more l t) (omega arith)
-
 -- a type without inputs
 interned-total : (t : Shape) (s : State) → inputCount t ≡ 0 → inputTotal ((interned t s) .1 .rows) ≡ inputTotal (s .rows)
-unfolding interned appended
+unfolding interned appended inputTotal
 interned-total t s z = whole (sane (length (s .rows)) t)
   where
     row : (o : Option ℕ) → inputTotal ((pooled t o s) .1 .rows) ≡ inputTotal (s .rows)
-    row none = total-more (s .rows) t ∙ omega (arith, z)
+    row none = omega (arith, z, total-append (s .rows) (t ∷ []))
     row (some r) = refl
 
     whole : (b : Bool) → inputTotal ((internIf b t s) .1 .rows) ≡ inputTotal (s .rows)
@@ -110,14 +101,14 @@ module _ (m m′ : List ℕ) (c : Record) (x : Made) (r : Given) (q : r ≡ with
 
   -- `new_infer_var`
   pub draw-gives : (k : Kind) (o : Origin) → made x m′ ≡ drawIn m (c .counts) k o → Gives m c m′ r (new-infer-var (kindOf (kindNumber k)) (numbered (originNumber o)))
-  unfolding new-infer-var run drawn
+  unfolding new-infer-var run drawn inputTotal
   draw-gives k o p = record {
     ran = λ s e f. let d = c .counts in
         let room : d .types < most-types = omega (arith, rows-counted e, length-append (s .rows) (var (length (s .mem .binds)) ∷ []), f .rows) in
         let room′ : d .vars < most-vars = omega (arith, vars-counted e, length-append (s .kinds) (kindOf (kindNumber k) ∷ []), f .vars) in
         let a : ℕ × State = (d .types, drawn (kindOf (kindNumber k)) (numbered (originNumber o)) s) in
         let h : answered (drawIn m d k o) s ≡ a = rw (e .tables) at (draw-step (e .sound) s k o room room′) in
-        rw (rows-counted e) (given e p q (beside-draw m d k o .in-tables) (draw-keeps (e .sound) k o) a h (beside-draw m d k o .inputs ∙ e .inputs ∙ sym (total-more (s .rows) (var (length (s .mem .binds))) ∙ omega arith)));
+        rw (rows-counted e) (given e p q (beside-draw m d k o .in-tables) (draw-keeps (e .sound) k o) a h (beside-draw m d k o .inputs ∙ e .inputs ∙ sym (total-append (s .rows) (var (length (s .mem .binds)) ∷ []) ∙ omega arith)));
   }
 
   -- the type array of y

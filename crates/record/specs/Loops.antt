@@ -1,15 +1,13 @@
 -- Running a program as the rest of another, for loops over the numbers of `for-each`. Assumes nothing.
-use mathlib.Core.Path.{_≡_, refl, sym, ap}
+use mathlib.Core.Path.{_≡_}
 use mathlib.Core.List.{List}
-use Prim.Native.Nat.{ℕ, suc, zero, _+_, _-_, _<_}
+use Prim.Native.Nat.{ℕ, suc, _+_, _-_, _≤_, _<_}
 use native.Mathlib.Omega.{arith}
 use native.Mathlib.Numerals.{add-one}
-use Rattle.theory.specs.Program.{done, _>>=_}
+use Rattle.theory.specs.Program.{_>>=_}
 use Rattle.record.specs.declared.Record.{Record}
-use Rattle.record.specs.declared.Ruled.{Ruled}
-use Rattle.record.specs.declared.Ruled.the-variants as ruled
 use Rattle.record.specs.Steps.{Step, for-each}
-use Rattle.record.specs.Encodes.{Runs, Stops, RulesBy, Rules}
+use Rattle.record.specs.Encodes.{Runs, Stops}
 use Rattle.record.specs.Runs.{runs-done, then, then-stops, stops}
 
 -- to run q from m and c is to run p from m₀ and c₀
@@ -22,6 +20,10 @@ pub record Onto (m₀ : List ℕ) (c₀ : Record) (m : List ℕ) (c : Record) (p
 -- nothing has run
 pub onto-same : {m : List ℕ} {c : Record} {p : Step} → Onto m c m c p p
 onto-same = record { ran = λ m′ c′ R. R; stopped = λ m′ c′ k n R. R }
+
+-- before the first turn
+pub onto-start : {m : List ℕ} {c : Record} (f : ℕ → Step) (k : ℕ) → Onto m c m c (for-each 0 k f) (for-each 0 (k - 0) f)
+onto-start f k = let z : k - 0 ≡ k = omega arith in rw z onto-same
 
 -- the numbers from i on are i, and those from the next on
 each-more : (f : ℕ → Step) (i k : ℕ) → i < k → for-each i (k - i) f ≡ _>>=_ (f i) (λ u. for-each (suc i) (k - suc i) f)
@@ -41,6 +43,6 @@ module _ {m₀ m : List ℕ} {c₀ c : Record} {p : Step} (f : ℕ → Step) (i 
   onto-stops {m₁} {c₁} {a} {n} l O R = O .stopped m₁ c₁ a n (rw (each-more f i k l) (stops _ R))
 
 -- after the last turn
-pub onto-end : {m₀ m : List ℕ} {c₀ c : Record} {p : Step} (f : ℕ → Step) (i k : ℕ) → i ≡ k → Onto m₀ c₀ m c p (for-each i (k - i) f) → Runs m₀ c₀ m c p tt
+pub onto-end : {m₀ m : List ℕ} {c₀ c : Record} {p : Step} (f : ℕ → Step) (i k : ℕ) → k ≤ i → Onto m₀ c₀ m c p (for-each i (k - i) f) → Runs m₀ c₀ m c p tt
 unfolding for-each
-onto-end {m = m} {c = c} f i k e O = let z : k - i ≡ 0 = omega arith in O .ran m c (rw z runs-done)
+onto-end {m = m} {c = c} f i k h O = let z : k - i ≡ 0 = omega arith in O .ran m c (rw z runs-done)

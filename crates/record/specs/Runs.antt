@@ -22,8 +22,13 @@ use Rattle.record.specs.declared.Equated.{Equated}
 use Rattle.record.specs.declared.Equated.the-variants as equated
 use Rattle.record.specs.Own.{Own, rawsOf, ownOf, nodeType}
 use Rattle.record.specs.Steps.{State, Walk, Step, node-type, shape-of, all-types, output}
-use Rattle.record.specs.Encodes.{Encodes, Fits, Runs, Stops, TypesBy, Types, RulesBy, Rules, Equates}
+use Rattle.record.specs.Encodes.{Encodes, Runs, Stops, TypesBy, Types, RulesBy, Rules, Equates}
 use Rattle.record.specs.Grows.{first-fits}
+
+-- the end of a walk is held where its state is
+pub encodes-refused : {m : List ℕ} {c : Record} {s : State} (k n : ℕ) → Encodes m c s → Encodes m c (refused k n s)
+unfolding refused stateOf
+encodes-refused k n e = record { size = e .size; sound = e .sound; tables = ap (refused k n) (e .tables); inputs = e .inputs; own = e .own; errors = e .errors; equations = e .equations; logged = e .logged }
 
 module _ {A : Type 0} {m : List ℕ} {c : Record} where
   -- an answer without a step
@@ -33,23 +38,8 @@ module _ {A : Type 0} {m : List ℕ} {c : Record} where
 
   -- a refusal
   pub stops-refuse : {k n : ℕ} → Stops {A = A} m c m c (refuse k n) k n
-  unfolding run refused stateOf
-  stops-refuse {k} {n} = record {
-    stopped = λ s e f. (
-      refl,
-      refl,
-      record {
-        size = e .size;
-        sound = e .sound;
-        tables = ap (refused k n) (e .tables);
-        inputs = e .inputs;
-        own = e .own;
-        errors = e .errors;
-        equations = e .equations;
-        logged = e .logged;
-      },
-    );
-  }
+  unfolding run refused
+  stops-refuse {k} {n} = record { stopped = λ s e f. (refl, refl, encodes-refused k n e) }
 
 -- the first part ended with an answer: the whole goes on with the second part from there
 ended : {A B : Type 0} (p : Walk A) (g : A → Walk B) (a : A) (s : State) → (run p s) .0 ≡ some a → run (_>>=_ p g) s ≡ run (g a) ((run p s) .1)

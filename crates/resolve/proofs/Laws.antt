@@ -4,12 +4,11 @@ use mathlib.Core.List.{List}
 use mathlib.Core.Option.{Option, none, some}
 use mathlib.Core.Bool.{Bool, true, false}
 use Prim.Native.Nat.{ℕ, suc, zero, _+_, _-_, _<_, _≤_}
-use native.Mathlib.Omega.{arith}
 use native.Mathlib.Numerals.{add-one}
 use lib.ListN.{getD, length}
 use lib.Dec.{eqb}
 use borrow.Author.Tests.{eqb-true, eqb-false}
-use Rattle.theory.specs.Rules.{Shape, Kind, regular, integer, floating, asVar, row, kind, bound, iter}
+use Rattle.theory.specs.Rules.{integer, asVar, row, kind}
 use Rattle.theory.specs.Program.{run}
 use Rattle.theory.specs.Start.{start}
 use Rattle.type_table.specs.declared.Counts.{Counts}
@@ -19,12 +18,12 @@ use Rattle.type_table.specs.declared.VarId.{VarId}
 use Rattle.type_table.specs.declared.Kind.{Kind as KindV}
 use Rattle.type_table.specs.declared.Kind.the-variants as kind·V
 use Rattle.type_table.specs.declared.Origin.{Origin}
-use Rattle.type_table.specs.declared.Bound.the-variants.{To, Open}
-use Rattle.type_table.specs.Memory.{memOf, pick, headAt, numberAt, rowsOf, kindsOf, originsOf, originAt, bindsOf, bindingAt, kindOf}
+use Rattle.type_table.specs.declared.Bound.the-variants.{Open}
+use Rattle.type_table.specs.Memory.{memOf, pick, headAt, numberAt, rowsOf, kindsOf, originsOf, bindsOf, bindingAt, kindOf}
 use Rattle.type_table.specs.Made.{kindNumber}
 use Rattle.type_table.specs.View.{kindIn, originIn, boundCode, boundIn, onwardIn, endIn}
 use Rattle.type_table.specs.View as view
-use Rattle.type_table.specs.Tables.{length-rows, bound-at, kind-at, origin-at}
+use Rattle.type_table.specs.Tables.{length-rows, bound-at}
 use Rattle.type_table.specs.Reads.{originMeant, kind-read, origin-read}
 use Rattle.type_table.specs.Sound.{fixed-types, stateOf}
 use Rattle.refs.specs.declared.Counts.{Counts as CountsB}
@@ -33,7 +32,7 @@ use Rattle.nodes.specs.declared.MaybeType.the-variants as type
 use Rattle.nodes.specs.declared.Items.{Items}
 use Rattle.nodes.specs.declared.TypeRow.{TypeRow}
 use Rattle.nodes.specs.declared.Function.{Function}
-use Rattle.nodes.specs.Nodes.{Body, item, declaredAt, typeRowAt, fnLine, asArr}
+use Rattle.nodes.specs.Nodes.{Body, item, declaredAt, typeRowAt, fnLine}
 use Rattle.nodes.specs.Shapes.{not-var, row-not-var, row-not-arr, row-head, row-var, row-arr}
 use Rattle.record.specs.declared.Record.{Record}
 use Rattle.record.specs.declared.NodeType.{NodeType}
@@ -42,15 +41,15 @@ use Rattle.record.specs.declared.Ruled.{Ruled}
 use Rattle.record.specs.declared.Ruled.the-variants as ruled
 use Rattle.record.specs.declared.Span.the-variants as span
 use Rattle.record.specs.Own.{log-at, rawsOf, blank, nodeType}
-use Rattle.record.specs.Steps.{State, Step, array-of, error, equation, set-node-type, set-final, for-each}
+use Rattle.record.specs.Steps.{State, array-of, error, equation, set-node-type, set-final, for-each}
 use Rattle.record.specs.Encodes.{Encodes, Runs, Stops, Rules}
 use Rattle.record.specs.Runs.{runs-done, then, then-stops, stops, runs-shape-of, runs-output, runs-node-type, after-rules, typed-some, untyped-none}
-use Rattle.record.specs.Loops.{Onto, onto-same, onto-next}
+use Rattle.record.specs.Loops.{Onto, onto-start, onto-next, onto-end}
 use Rattle.record.specs.declared.ErrorKind.the-variants as error·K
 use Rattle.rules.specs.Rules.{err-type, at, own-error, mismatch, equate-on}
 use Rattle.walk.specs.Walk.{typeck-expr}
 use Rattle.resolve.specs.Body.{first-state, BodyTyped}
-use Rattle.resolve.specs.Resolve.{type-of-line, declare-type, boundOf, endBy, endFrom, end-of, drawn-as, orZero, open-type, variable-type, settled, resolve-variable, resolve-array, resolve-element, resolve-shape, resolve-type-variable, resolve-node, declare-types, param-type, param, params, result, typeck, resolve-nodes, bodyWith, type-body}
+use Rattle.resolve.specs.Resolve.{type-of-line, declare-type, boundOf, endBy, endFrom, end-of, drawn-as, orZero, variable-type, resolve-variable, resolve-element, resolve-type-variable, resolve-node, declare-types, param-type, param, params, result, typeck, resolve-nodes, bodyWith, type-body}
 
 -- ── the end of a row's bindings ──
 
@@ -215,20 +214,11 @@ module _ (n : CountsB) (rows cells : List ℕ) {m m₁ m₂ m₃ : List ℕ} {c 
 
 -- ── loops ──
 
--- the last turn was done
-loop-end : {m₀ m : List ℕ} {c₀ c : Record} {p : Step} (f : ℕ → Step) (i k : ℕ) → k ≤ i → Onto m₀ c₀ m c p (for-each i (k - i) f) → Runs m₀ c₀ m c p tt
-unfolding for-each
-loop-end {m = m} {c = c} f i k h O = let z : k - i ≡ 0 = omega arith in O .ran m c (rw z runs-done)
-
--- nothing was done
-loop-start : {m : List ℕ} {c : Record} (f : ℕ → Step) (k : ℕ) → Onto m c m c (for-each 0 k f) (for-each 0 (k - 0) f)
-loop-start f k = let z : k - 0 ≡ k = omega arith in rw z onto-same
-
 module _ (rows cells : List ℕ) (n : ℕ) where
   -- no type line is declared
   pub lines-first : {m : List ℕ} {c : Record} → Onto m c m c (declare-types rows cells n) (for-each 0 (n - 0) (declare-type rows cells))
   unfolding declare-types
-  lines-first = loop-start (declare-type rows cells) n
+  lines-first = onto-start (declare-type rows cells) n
 
   module _ {m₀ m : List ℕ} {c₀ c : Record} (i : ℕ) where
     -- one more
@@ -237,13 +227,13 @@ module _ (rows cells : List ℕ) (n : ℕ) where
 
     -- all are
     pub lines-last : n ≤ i → Onto m₀ c₀ m c (declare-types rows cells n) (for-each i (n - i) (declare-type rows cells)) → Runs m₀ c₀ m c (declare-types rows cells n) tt
-    lines-last h O = loop-end (declare-type rows cells) i n h O
+    lines-last h O = onto-end (declare-type rows cells) i n h O
 
 module _ (n : ℕ) where
   -- no node is resolved
   pub nodes-first : {m : List ℕ} {c : Record} → Onto m c m c (resolve-nodes n) (for-each 0 (n - 0) resolve-node)
   unfolding resolve-nodes
-  nodes-first = loop-start resolve-node n
+  nodes-first = onto-start resolve-node n
 
   module _ {m₀ m : List ℕ} {c₀ c : Record} (i : ℕ) where
     -- one more
@@ -252,13 +242,13 @@ module _ (n : ℕ) where
 
     -- all are
     pub nodes-last : n ≤ i → Onto m₀ c₀ m c (resolve-nodes n) (for-each i (n - i) resolve-node) → Runs m₀ c₀ m c (resolve-nodes n) tt
-    nodes-last h O = loop-end resolve-node i n h O
+    nodes-last h O = onto-end resolve-node i n h O
 
 module _ (rows cells : List ℕ) (t : Items) where
   -- no P is typed
   pub params-first : {m : List ℕ} {c : Record} → Onto m c m c (params rows cells t) (for-each 0 (t .count - 0) (param rows cells t))
   unfolding params
-  params-first = loop-start (param rows cells t) (t .count)
+  params-first = onto-start (param rows cells t) (t .count)
 
   module _ {m₀ m : List ℕ} {c₀ c : Record} (i k : ℕ) where
     -- one more
@@ -269,7 +259,7 @@ module _ (rows cells : List ℕ) (t : Items) where
 
     -- all are
     pub params-last : k ≤ i → Onto m₀ c₀ m c (params rows cells t) (for-each i (k - i) (param rows cells t)) → Runs m₀ c₀ m c (params rows cells t) tt
-    params-last h O = loop-end (param rows cells t) i k h O
+    params-last h O = onto-end (param rows cells t) i k h O
 
 -- ── origins ──
 

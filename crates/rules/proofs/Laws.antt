@@ -1,15 +1,13 @@
 -- What each return of a rule shows: the program of the rule, from those of its parts.
-use mathlib.Core.Path.{_≡_, refl, sym, ap, _∙_}
-use mathlib.Core.List.{List, [], _∷_}
-use mathlib.Core.Option.{Option, none, some}
-use mathlib.Core.Bool.{Bool, true, false, cond}
+use mathlib.Core.Path.{_≡_, refl, sym, _∙_}
+use mathlib.Core.List.{List}
+use mathlib.Core.Option.{none, some}
+use mathlib.Core.Bool.{Bool, true, false}
 use Prim.Native.Nat.{ℕ, _+_, _-_, _<_, _≤_}
-use native.Mathlib.Omega.{arith}
 use lib.ListN.{length, getD}
-use lib.Dec.{eqb, ltb, leb}
 use borrow.Author.Tests.{eq-eqb, ne-eqb, lt-ltb, le-ltb, le-leb, lt-leb}
-use Rattle.theory.specs.Rules.{Base, bool, nil, float, double, uint, int, inst, Shape, base, var, arr, ref, fn, fun, lam, err, div, baseHead, row, asVar, head, instance-head, param-head, fn-def-head, array-head, error-head, infer-head, lambda-head, ref-head, regular}
-use Rattle.theory.specs.Program.{done, refuse, _>>=_}
+use Rattle.theory.specs.Rules.{Base, bool, nil, float, double, uint, int, inst, Shape, base, var, arr, ref, fn, fun, lam, err, div, baseHead, row, head, instance-head, param-head, fn-def-head, error-head, lambda-head, ref-head, regular}
+use Rattle.theory.specs.Program.{done}
 use Rattle.type_table.specs.declared.TypeId.{TypeId}
 use Rattle.type_table.specs.declared.NodeId.{NodeId}
 use Rattle.type_table.specs.declared.DefId.{DefId}
@@ -27,7 +25,7 @@ use Rattle.nodes.specs.declared.Res.the-variants as res
 use Rattle.nodes.specs.declared.BinOp.{BinOp}
 use Rattle.nodes.specs.declared.UnOp.{UnOp}
 use Rattle.nodes.specs.declared.UnOp.the-variants as un
-use Rattle.nodes.specs.Nodes.{Body, item, declaredAt, asArr, itemsOf, outputOf, nth, inputsOf, method, fieldType, isPartlyFailed, segmentName, segmentRes}
+use Rattle.nodes.specs.Nodes.{Body, item, declaredAt, itemsOf, outputOf, nth, inputsOf, method, fieldType, isPartlyFailed, segmentName, segmentRes}
 use Rattle.nodes.specs.Shapes.{not-var, not-arr, head-not, row-head, row-inst, row-fun, row-fn, row-arr, row-err, row-var, row-lam, row-ref}
 use Rattle.record.specs.declared.Record.{Record}
 use Rattle.record.specs.declared.NodeType.{NodeType}
@@ -39,10 +37,10 @@ use Rattle.record.specs.declared.Span.{Span}
 use Rattle.record.specs.declared.ErrorRow.{ErrorRow}
 use Rattle.record.specs.declared.ErrorKind.the-variants as error·K
 use Rattle.record.specs.Own.{rawsOf, nodeType}
-use Rattle.record.specs.Steps.{fn-def, instance, ref-to, make-lambda, Walk, Step, shape-of, mark-var, error, equation, set-extra, set-node-type, new-infer-var, array-of, drawn-by, for-each}
-use Rattle.record.specs.Encodes.{Runs, Stops, Types, Rules, Equates}
+use Rattle.record.specs.Steps.{fn-def, instance, ref-to, make-lambda, mark-var, error, equation, set-extra, set-node-type, new-infer-var, array-of, drawn-by, for-each}
+use Rattle.record.specs.Encodes.{Runs, Stops, Types, Rules}
 use Rattle.record.specs.Runs.{runs-done, stops-refuse, then, then-stops, stops, runs-shape-of, runs-types, runs-output, runs-node-type, after, after-rules, typed-some, untyped-none}
-use Rattle.record.specs.Loops.{Onto, onto-same, onto-next, onto-end}
+use Rattle.record.specs.Loops.{Onto, onto-start, onto-next, onto-end}
 use Rattle.rules.specs.Rules.{lambda-param-at, lambda-params, nil-type, bool-type, u64-type, assign, op-assign, branches, index, element, err-type, diverges-type, at, own-error, mismatch, between, equate-for, equate-on, bin-type, bin-op, no-unary-op, asRef, negation, logical-not, un-op, asInstBase, asInst, field-of, no-instance, list-of, empty-list, element-of, condition, returned, local-type, let-without-init, let-with-init, not-called, field, called, callee-of, amounts-of, amounts, argument, sought, method-of, lambda-param, lambda-output, lambda, type-res, whole-path, path-found, path-of, inst-path, failed-path, path}
 
 -- ── equations ──
@@ -410,10 +408,6 @@ module _ {m : List ℕ} {c : Record} (n : ℕ) (r : Res) (l : NodeId) (is : r �
   unfolding type-res
   local-untyped h = rw is (then-stops _ (runs-node-type (l .0)) (rw (untyped-none (getD (rawsOf m) (l .0) none) (sym found ∙ h)) stops-refuse))
 
--- what RES is, and the program of that
-pub res-by : {m m′ : List ℕ} {c : Record} (n : ℕ) (r k : Res) {x : Typed} → r ≡ k → Types m c m′ x (type-res n k) → Types m c m′ x (type-res n r)
-res-by n r k e R = rw e R
-
 module _ {m m₁ m′ : List ℕ} {c d : Record} (n : ℕ) where
   -- a whole path
   pub whole-is : (r : Res) (t : ℕ) → Runs m c m₁ d (type-res n r) t → Runs m₁ d m′ d (set-extra n (extra.Resolved r)) tt → Runs m c m′ d (whole-path n r) t
@@ -451,10 +445,6 @@ module _ (b : Body) {m m′ : List ℕ} {c : Record} (n k : ℕ) (t : Items) (l 
 pub inst-short : (b : Body) {m : List ℕ} {c : Record} (n k : ℕ) (t : Items) → t .count ≤ k → Stops m c m c (inst-path b n k t) 10 n
 unfolding inst-path
 inst-short b n k t h = rw (le-ltb k (t .count) h) stops-refuse
-
--- what RES is, and the program of a partly failed path
-pub failed-by : (b : Body) {m m′ : List ℕ} {c : Record} (n k : ℕ) (r i : Res) (t : Items) {x : Typed} → r ≡ i → Types m c m′ x (failed-path b n i k t) → Types m c m′ x (failed-path b n r k t)
-failed-by b n k r i t e R = rw e R
 
 module _ (b : Body) {m m′ : List ℕ} {c : Record} (n k : ℕ) (r : Res) (t : Items) where
   -- a partly failed path
@@ -552,7 +542,7 @@ module _ (rows cells : List ℕ) (t : Items) where
   -- no param is done
   pub params-first : {m : List ℕ} {c : Record} → Onto m c m c (lambda-params rows cells t) (for-each 0 (t .count - 0) (lambda-param-at rows cells t))
   unfolding lambda-params
-  params-first = let z : t .count - 0 ≡ t .count = omega arith in rw z onto-same
+  params-first = onto-start (lambda-param-at rows cells t) (t .count)
 
   -- one more
   pub params-next : {m₀ m m₁ : List ℕ} {c₀ c c₁ : Record} (i k n : ℕ) → i < k → n ≡ item cells t i → Onto m₀ c₀ m c (lambda-params rows cells t) (for-each i (k - i) (lambda-param-at rows cells t)) → Runs m c m₁ c₁ (lambda-param n (declaredAt rows cells n)) tt
@@ -561,5 +551,5 @@ module _ (rows cells : List ℕ) (t : Items) where
   params-next i k n l e O R = onto-next (lambda-param-at rows cells t) i k l O (rw e at R)
 
   -- all are done
-  pub params-last : {m₀ m : List ℕ} {c₀ c : Record} (i k : ℕ) → i ≤ k → k ≤ i → Onto m₀ c₀ m c (lambda-params rows cells t) (for-each i (k - i) (lambda-param-at rows cells t)) → Runs m₀ c₀ m c (lambda-params rows cells t) tt
-  params-last i k h l O = onto-end (lambda-param-at rows cells t) i k (omega arith) O
+  pub params-last : {m₀ m : List ℕ} {c₀ c : Record} (i k : ℕ) → k ≤ i → Onto m₀ c₀ m c (lambda-params rows cells t) (for-each i (k - i) (lambda-param-at rows cells t)) → Runs m₀ c₀ m c (lambda-params rows cells t) tt
+  params-last i k h O = onto-end (lambda-param-at rows cells t) i k h O

@@ -113,3 +113,9 @@ module _ (m : List ℕ) (n : ℕ) where
   pub length-marks : length (marksOf m n) ≡ n
   unfolding marksOf
   length-marks = length-tab (markAt m n) n
+
+-- as many inputs
+pub length-inputs : (m : List ℕ) (f k : ℕ) → length (inputsFrom m f k) ≡ k
+unfolding inputsFrom
+length-inputs m f zero = refl
+length-inputs m f (suc k) = ap suc (length-inputs m (suc f) k)

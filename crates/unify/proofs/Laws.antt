@@ -141,9 +141,6 @@ module _ (e g : ℕ) (a : Bool) (pa : a ≡ (compared e && eqb e g)) where
 
 -- ── step 1's comparison ──
 
-pub cap-low : (a : ℕ) → a < 3 → a ≡ pick true a 3
-cap-low a h = refl
-
 pub code-other : (h a : ℕ) → (((((((Unit {0} × (h ≡ 0 → ⊥)) × (h ≡ 1 → ⊥)) × (h ≡ 2 → ⊥)) × (h ≡ 3 → ⊥)) × (h ≡ 4 → ⊥)) × (h ≡ 5 → ⊥)) × (h ≡ 9 → ⊥)) → 0 ≡ code h a
 unfolding code
 code-other h a e = simp (ne-eqb h 0 (e .0 .0 .0 .0 .0 .0 .1), ne-eqb h 1 (e .0 .0 .0 .0 .0 .1), ne-eqb h 2 (e .0 .0 .0 .0 .1), ne-eqb h 3 (e .0 .0 .0 .1), ne-eqb h 4 (e .0 .0 .1), ne-eqb h 5 (e .0 .1), ne-eqb h 9 (e .1))

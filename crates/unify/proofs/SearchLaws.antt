@@ -191,13 +191,6 @@ module _ (m : List ℕ) (c : Counts) (v : ℕ) where
   pub is-v : (n x : ℕ) → asVar (row (rowsIn m c) x) ≡ some v → leadsIn m c v (suc n) x ≡ true
   is-v n x e = step-eq n x ∙ rw (e, eq-eqb v v refl)
 
-  -- past the rows nothing leads anywhere
-  pub past : (n x : ℕ) → c .types ≤ x → leadsIn m c v n x ≡ false
-  past n x h = step-none n x (rw nothing) (rw nothing)
-    where
-      nothing : row (rowsIn m c) x ≡ base nil
-      nothing = List·getD-eq-default (rowsIn m c) (base nil) (rw (length-rows m (c .types)) h)
-
 -- ── along one by one ──
 
 module _ (m : List ℕ) (c : Counts) (v : VarId) where

@@ -18,7 +18,7 @@ use Rattle.type_table.specs.declared.InputRange.{InputRange}
 use Rattle.type_table.specs.Memory.{pick, counts, cell, inputs-at, outputAt, firstAt, countAt, inputsFrom, memOf, Held}
 use Rattle.theory.specs.Program.{clip, fuel, solve}
 use Rattle.unify.specs.declared.Answer.{Answer}
-use Rattle.type_table.specs.Tables.{length-rows, length-binds}
+use Rattle.type_table.specs.Tables.{length-rows, length-binds, length-inputs}
 use Rattle.unify.specs.declared.Reply.{Reply}
 use Rattle.unify.specs.declared.Reply.the-variants.{Success, Mismatch, KindOrder, Refused12, Refused13, Dry}
 use Rattle.unify.specs.declared.Next.{Next}
@@ -102,11 +102,6 @@ module _ (m₀ : List ℕ) (c : Counts) (first second count n : ℕ) where
       each-stop e held = let r = first-pair held in (r .0, (l held) .1 ∙ r .1 ∙ stops a (memIn w c) (λ t. each (rowsIn m₀ c) (kindsIn m₀ c) (by m₀ c n) (zip (inputsFrom m₀ (f + 1) (k - 1)) (inputsFrom m₀ (g + 1) (k - 1))) success t) e)
 
 -- ── outputs, then lengths, then inputs ──
-
-length-inputs : (m : List ℕ) (f k : ℕ) → length (inputsFrom m f k) ≡ k
-unfolding inputsFrom
-length-inputs m f zero = refl
-length-inputs m f (suc k) = ap suc (length-inputs m (suc f) k)
 
 module _ (m : List ℕ) (c : Counts) (x y : TypeId) (n : ℕ) (o p : TypeId) (r s : InputRange) (po : o .0 ≡ outputAt m (c .types) (x .0)) (pp : p .0 ≡ outputAt m (c .types) (y .0))
     (pr : (r .first ≡ firstAt m (c .types) (x .0)) × (r .count ≡ countAt m (c .types) (x .0))) (ps : (s .first ≡ firstAt m (c .types) (y .0)) × (s .count ≡ countAt m (c .types) (y .0)))

@@ -1,11 +1,11 @@
 -- What each return of the walk shows: the program of a rule, from those of its parts.
-use mathlib.Core.Path.{_≡_, refl, sym, _∙_}
+use mathlib.Core.Path.{_≡_}
 use mathlib.Core.List.{List}
 use mathlib.Core.Option.{Option, none, some}
 use Prim.Native.Nat.{ℕ, suc, _+_, _-_, _<_, _≤_}
 use native.Mathlib.Omega.{arith}
 use borrow.Author.Tests.{ne-eqb}
-use Rattle.theory.specs.Program.{done, _>>=_}
+use Rattle.theory.specs.Program.{done}
 use Rattle.type_table.specs.declared.TypeId.{TypeId}
 use Rattle.type_table.specs.declared.NodeId.{NodeId}
 use Rattle.type_table.specs.declared.DefId.{DefId}
@@ -28,10 +28,10 @@ use Rattle.record.specs.declared.Span.{Span}
 use Rattle.record.specs.declared.Span.the-variants as span
 use Rattle.record.specs.declared.Typed.{Typed}
 use Rattle.record.specs.declared.Ruled.{Ruled}
-use Rattle.record.specs.Steps.{Walk, Step, set-node-type, for-each}
+use Rattle.record.specs.Steps.{Walk, set-node-type, for-each}
 use Rattle.record.specs.Encodes.{Runs, Stops, Types, Rules}
 use Rattle.record.specs.Runs.{runs-done, then, then-stops, stops, after, after-rules}
-use Rattle.record.specs.Loops.{Onto, onto-same, onto-next, onto-stops}
+use Rattle.record.specs.Loops.{Onto, onto-same, onto-start, onto-next, onto-stops, onto-end}
 use Rattle.rules.specs.declared.Indexed.{Indexed}
 use Rattle.rules.specs.declared.Indexed.the-variants as indexed
 use Rattle.rules.specs.declared.Called.{Called}
@@ -120,11 +120,6 @@ module _ (b : Body) (E : Visit) where
     unfolding typeck-expr-field
     field-on e x name T R = after _ T R
 
-    -- an element of a list
-    pub element-on : (n i x y a : ℕ) (t : Items) {z : Ruled} → a ≡ item (b .cells) t i → Runs m c m₁ c₁ (E a) y → Rules m₁ c₁ m′ z (rule.element n a x y) → Rules m c m′ z (element b E n t x i)
-    unfolding element
-    element-on n i x y a t h T R = rw (← h) (after-rules _ T R)
-
     -- the later elements of a list
     pub rest-on : (n x : ℕ) (t : Items) {z : Typed} → Runs m c m₁ c₁ (elements b E n t x) tt → Types m₁ c₁ m′ z (rule.list-of x) → Types m c m′ z (rest b E n t x)
     unfolding rest
@@ -159,11 +154,6 @@ module _ (b : Body) (E : Visit) where
     pub branches-on : (n k x : ℕ) (e : MaybeNode) {z : Typed} → Runs m c m₁ c₁ (block-at b E k) x → Types m₁ c₁ m′ z (typeck-else b E n x e) → Types m c m′ z (typeck-branches b E n k e)
     unfolding typeck-branches
     branches-on n k x e T R = after _ T R
-
-    -- an argument
-    pub arg-on : (n i from y a : ℕ) (p : Span) (f : Callee) (t : Items) {z : Ruled} → a ≡ item (b .cells) t i → Runs m c m₁ c₁ (E a) y → Rules m₁ c₁ m′ z (rule.argument (b .rows) (b .cells) n p f (from + i) y) → Rules m c m′ z (arg b E n p f t from i)
-    unfolding arg
-    arg-on n i from y a p f t h T R = rw (← h) (after-rules _ T R)
 
     -- a call whose arguments were typed
     pub verify-on : {d : Record} (n o : ℕ) (f : Callee) (t : Items) → Runs m c m₁ c₁ (rule.amounts (b .rows) (b .cells) (rule.at n) f (t .count)) tt → Runs m₁ c₁ m′ d (args b E n (rule.at n) f t 0) tt → Runs m c m′ d (verify-arguments-for-call b E n f t o) o
@@ -291,11 +281,6 @@ module _ (b : Body) (E : Visit) where
       unfolding typeck-expr-field
       field-off e name T = stops _ T
 
-      -- an element of a list
-      pub element-off : (n i x a : ℕ) (t : Items) → a ≡ item (b .cells) t i → Stops m c m′ d (E a) k p → Stops m c m′ d (element b E n t x i) k p
-      unfolding element
-      element-off n i x a t h T = rw (← h) (stops _ T)
-
       -- the later elements of a list
       pub rest-off : (n x : ℕ) (t : Items) → Stops m c m′ d (elements b E n t x) k p → Stops m c m′ d (rest b E n t x) k p
       unfolding rest
@@ -351,11 +336,6 @@ module _ (b : Body) (E : Visit) where
       unfolding typeck-loop
       loop-off a T = stops _ T
 
-      -- an argument
-      pub arg-off : (n i from a : ℕ) (q : Span) (f : Callee) (t : Items) → a ≡ item (b .cells) t i → Stops m c m′ d (E a) k p → Stops m c m′ d (arg b E n q f t from i) k p
-      unfolding arg
-      arg-off n i from a q f t h T = rw (← h) (stops _ T)
-
       -- a callee
       pub call-off : (n f : ℕ) (t : Items) → Stops m c m′ d (E f) k p → Stops m c m′ d (typeck-call b E n f t) k p
       unfolding typeck-call
@@ -393,11 +373,6 @@ module _ (b : Body) (E : Visit) where
     pub stmt-let : (n : ℕ) (v l : Local) (t : MaybeType) (e : MaybeNode) {z : Ruled} → v ≡ l → v ≡ local.Let t e → Rules m c m′ z (typeck-local b E n t e) → Rules m c m′ z (typeck-stmt b E n l)
     unfolding typeck-stmt
     stmt-let n v l t e h k R = rw (← h, k) R
-
-    -- the statement i
-    pub stmt-at : (i a : ℕ) (t : Items) {z : Ruled} → a ≡ item (b .cells) t i → Rules m c m′ z (typeck-stmt b E a (letAt (b .rows) (b .cells) a)) → Rules m c m′ z (stmt b E t i)
-    unfolding stmt
-    stmt-at i a t h R = rw (← h) R
 
     -- a tail
     pub tail-of : (e : MaybeNode) (a : NodeId) {z : Typed} → e ≡ node.Of a → Types m c m′ z (E (a .0)) → Types m c m′ z (tail b E e)
@@ -459,11 +434,6 @@ module _ (b : Body) (n : ℕ) where
 
 -- ── loops ──
 
--- the last turn was done
-loop-end : {m₀ m : List ℕ} {c₀ c : Record} {p : Step} (f : ℕ → Step) (i k : ℕ) → k ≤ i → Onto m₀ c₀ m c p (for-each i (k - i) f) → Runs m₀ c₀ m c p tt
-unfolding for-each
-loop-end {m = m} {c = c} f i k h O = let z : k - i ≡ 0 = omega arith in O .ran m c (rw z runs-done)
-
 module _ (b : Body) (E : Visit) (t : Items) where
   -- ── the later elements of a list ──
 
@@ -491,7 +461,7 @@ module _ (b : Body) (E : Visit) (t : Items) where
 
     -- all are done
     pub elements-last : {m₀ m : List ℕ} {c₀ c : Record} (i k : ℕ) → k ≤ i → Onto m₀ c₀ m c (elements b E n t x) (for-each i (k - i) (element b E n t x)) → Runs m₀ c₀ m c (elements b E n t x) tt
-    elements-last i k h O = loop-end (element b E n t x) i k h O
+    elements-last i k h O = onto-end (element b E n t x) i k h O
 
   -- ── the arguments of a call ──
 
@@ -499,7 +469,7 @@ module _ (b : Body) (E : Visit) (t : Items) where
     -- none is done
     pub args-first : {m : List ℕ} {c : Record} → Onto m c m c (args b E n p f t from) (for-each 0 (t .count - 0) (arg b E n p f t from))
     unfolding args
-    args-first = let z : t .count - 0 ≡ t .count = omega arith in rw z onto-same
+    args-first = onto-start (arg b E n p f t from) (t .count)
 
     module _ {m₀ m : List ℕ} {c₀ c : Record} (i k a : ℕ) (l : i < k) (e : a ≡ item (b .cells) t i) (O : Onto m₀ c₀ m c (args b E n p f t from) (for-each i (k - i) (arg b E n p f t from))) where
       -- one more
@@ -519,14 +489,14 @@ module _ (b : Body) (E : Visit) (t : Items) where
 
     -- all are done
     pub args-last : {m₀ m : List ℕ} {c₀ c : Record} (i k : ℕ) → k ≤ i → Onto m₀ c₀ m c (args b E n p f t from) (for-each i (k - i) (arg b E n p f t from)) → Runs m₀ c₀ m c (args b E n p f t from) tt
-    args-last i k h O = loop-end (arg b E n p f t from) i k h O
+    args-last i k h O = onto-end (arg b E n p f t from) i k h O
 
   -- ── the statements of a block ──
 
   -- none is done
   pub stmts-first : {m : List ℕ} {c : Record} → Onto m c m c (stmts b E t) (for-each 0 (t .count - 0) (stmt b E t))
   unfolding stmts
-  stmts-first = let z : t .count - 0 ≡ t .count = omega arith in rw z onto-same
+  stmts-first = onto-start (stmt b E t) (t .count)
 
   module _ {m₀ m : List ℕ} {c₀ c : Record} (i k a : ℕ) (l : i < k) (e : a ≡ item (b .cells) t i) (O : Onto m₀ c₀ m c (stmts b E t) (for-each i (k - i) (stmt b E t))) where
     -- one more
@@ -541,4 +511,4 @@ module _ (b : Body) (E : Visit) (t : Items) where
 
   -- all are done
   pub stmts-last : {m₀ m : List ℕ} {c₀ c : Record} (i k : ℕ) → k ≤ i → Onto m₀ c₀ m c (stmts b E t) (for-each i (k - i) (stmt b E t)) → Runs m₀ c₀ m c (stmts b E t) tt
-  stmts-last i k h O = loop-end (stmt b E t) i k h O
+  stmts-last i k h O = onto-end (stmt b E t) i k h O

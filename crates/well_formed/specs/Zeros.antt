@@ -20,7 +20,7 @@ pub record ZeroBehind (n : Counts) (rows cells : List ℕ) : Type 0 where
   pub end-zero : (j : ℕ) → rows-length ≤ j → getD rows j 0 ≡ 0
 
 -- a list of zeros has no other number
-zero-at : (m j : ℕ) → getD {A = ℕ} (replicate m 0) j 0 ≡ 0
+pub zero-at : (m j : ℕ) → getD {A = ℕ} (replicate m 0) j 0 ≡ 0
 zero-at zero j = refl
 zero-at (suc m) zero = refl
 zero-at (suc m) (suc j) = zero-at m j

@@ -1,5 +1,6 @@
 use borrow.Author.Needs.{needs}
-use Rattle.nodes.proofs.Laws.{length-def, length-inputs}
+use Rattle.type_table.specs.Tables.{length-inputs}
+use Rattle.nodes.proofs.Laws.{length-def}
 use Rattle.nodes.proofs.input_count.Statement.{statement}
 use Rattle.nodes.proofs.input_count.Tie as tie
 

@@ -1,4 +1,5 @@
-use Rattle.record.proofs.InputLaws.{function-gives, function-none, length-items}
+use Rattle.nodes.specs.Numbers.{length-items}
+use Rattle.record.proofs.InputLaws.{function-gives, function-none}
 use borrow.Author.Needs.{needs}
 use Rattle.record.proofs.function.Statement.{statement}
 use Rattle.record.proofs.function.Tie as tie

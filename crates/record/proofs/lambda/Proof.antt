@@ -1,4 +1,5 @@
-use Rattle.record.proofs.InputLaws.{lambda-gives, lambda-none, length-items}
+use Rattle.nodes.specs.Numbers.{length-items}
+use Rattle.record.proofs.InputLaws.{lambda-gives, lambda-none}
 use borrow.Author.Needs.{needs}
 use Rattle.record.proofs.lambda.Statement.{statement}
 use Rattle.record.proofs.lambda.Tie as tie

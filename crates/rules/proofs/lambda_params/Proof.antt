@@ -27,4 +27,4 @@ lambda-params-spec =
     (λ c. search needs)
     (λ c. (search needs, params-next _ _ _ _ _ _ ((c .before .before .before .before .before .loop-test .taken)) ((c .before .before .before .before .item .ensures)) ((c .before .before .before .before .before .before .loop .inv .1)) ((c .before .before .lambda-param .ensures)), search needs, search needs))
     (λ c. search needs)
-    (λ c. params-last _ _ _ _ _ ((c .before .loop .inv .0)) ((c .loop-test .left)) ((c .before .loop .inv .1))))
+    (λ c. params-last _ _ _ _ _ (c .loop-test .left) (c .before .loop .inv .1)))

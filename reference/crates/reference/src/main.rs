@@ -8,6 +8,7 @@ mod wrong;
 
 use cases::Case;
 use original::{THREAD_STACK, Want};
+use rules::tables::Lent;
 use std::io::{Read, Write};
 use std::process::ExitCode;
 
@@ -15,16 +16,18 @@ const USAGE: &str = "\
 usage: reference report [FILE]        what the original gives for a body, in document 01's words; FILE is standard input if absent
        reference source [FILE]        what the source does with it where it is let go on behind a ring and panics stay panics
        reference rules [FILE]         what document 01 gives for it, by the second program
+       reference tables [FILE]        what check_run prints for it behind its name, by the second program
        reference entries [FILE]       each entry of `unify` in the original: node, expected, got
        reference families             the families of generated bodies
        reference body SEED INDEX      a generated body
        reference many SEED COUNT      the first COUNT bodies of SEED through both programs: counts, and what differs
-       reference stream WHAT SEED COUNT   the same bodies one behind the other, WHAT being text, read, original or rules:
-                                      as sample_run reads them, and what the reader, the original and the rules give
+       reference stream WHAT SEED COUNT   the same bodies one behind the other, WHAT being text, original, rules or tables:
+                                      as check_run reads them, what the original and the rules give, and what check_run prints
        reference test FILE..          the cases of these files through both programs
-       reference replay DIR           the recorded samples in DIR through the rules, against their reports
+       reference replay DIR           the recorded samples in DIR through the rules, against what is recorded
        reference wrong LIST WORKSPACE DIR   wrong versions of the rules' program on the recorded samples
-       reference sample DIR FILE..    writes the recorded samples to DIR, with the cases of these files
+       reference sample DIR LENT FILE..   writes the recorded samples to DIR, with the cases of these files; those of LENT are
+                                      about the lengths of the lent tables
 ";
 
 fn main() -> ExitCode {
@@ -55,6 +58,7 @@ fn command(args: &[&str]) -> Result<bool, String> {
         ["report", file @ ..] => show(cases::report(&bytes(file)?).text()),
         ["source", file @ ..] => show(walk(&bytes(file)?, Want { source: true, entries: false }).0),
         ["rules", file @ ..] => show(rules::report(&bytes(file)?)),
+        ["tables", file @ ..] => show(rules::tables::text(&bytes(file)?, &Lent::of(""))),
         ["entries", file @ ..] => show(walk(&bytes(file)?, Want { source: false, entries: true }).1),
         ["families"] => show(generate::describe()),
         ["body", seed, index] => {
@@ -67,7 +71,7 @@ fn command(args: &[&str]) -> Result<bool, String> {
         ["test", files @ ..] if !files.is_empty() => test(files),
         ["replay", dir] => replay(dir),
         ["wrong", list, workspace, dir] => wrong::run(list, workspace, dir),
-        ["sample", dir, files @ ..] => write(dir, &read_cases(files)?),
+        ["sample", dir, lent, files @ ..] => write(dir, &read_cases(&[lent])?, &read_cases(files)?),
         _ => Err(USAGE.to_string()),
     }
 }
@@ -114,9 +118,9 @@ fn stream(what: &str, seed: u64, count: u64) -> Result<bool, String> {
         let head = format!("{}-{index}", family.name());
         let text = match what {
             "text" => format!("{head} {}\n", text::flat(&bytes)),
-            "read" => format!("== {head}\n{}", sample::read(&bytes)),
             "original" => format!("== {head}\n{}", cases::report(&bytes).text()),
             "rules" => format!("== {head}\n{}", rules::report(&bytes)),
+            "tables" => format!("== {head}\n{}", rules::tables::text(&bytes, &Lent::of(&head))),
             _ => return Err(USAGE.to_string()),
         };
         out.write_all(text.as_bytes()).map_err(|e| e.to_string())?;
@@ -150,13 +154,13 @@ fn test(files: &[&str]) -> Result<bool, String> {
 
 fn replay(dir: &str) -> Result<bool, String> {
     let file = |name: &str| std::fs::read_to_string(format!("{dir}/{name}")).map_err(|e| format!("{dir}/{name}: {e}"));
-    let (bodies, reports) = (file("stdin")?, file("data/reports")?);
-    let mut reports = reports.split("== ").skip(1);
+    let (bodies, recorded) = (file("stdin")?, file("stdout")?);
+    let mut recorded = recorded.split("== ").skip(1);
     let (mut same, mut different) = (0, 0);
     for line in bodies.lines().filter(|l| !l.is_empty() && !l.starts_with('#')) {
         let (name, text) = line.split_once(' ').unwrap_or((line, ""));
         let bytes = text::expand(text).ok_or_else(|| format!("{name}: not a text"))?;
-        if reports.next() == Some(&format!("{name}\n{}", rules::report(&bytes))) {
+        if recorded.next() == Some(&format!("{name}\n{}", rules::tables::text(&bytes, &Lent::of(name)))) {
             same += 1;
         } else {
             different += 1;
@@ -164,15 +168,12 @@ fn replay(dir: &str) -> Result<bool, String> {
         }
     }
     println!("{same} the same, {different} different");
-    Ok(different == 0 && reports.next().is_none())
+    Ok(different == 0 && recorded.next().is_none())
 }
 
-fn write(dir: &str, cases: &[Case]) -> Result<bool, String> {
-    for (name, text) in sample::files(cases)? {
+fn write(dir: &str, lent: &[Case], cases: &[Case]) -> Result<bool, String> {
+    for (name, text) in sample::files(lent, cases)? {
         let path = format!("{dir}/{name}");
-        if let Some(parent) = std::path::Path::new(&path).parent() {
-            std::fs::create_dir_all(parent).map_err(|e| format!("{path}: {e}"))?;
-        }
         std::fs::write(&path, text).map_err(|e| format!("{path}: {e}"))?;
     }
     Ok(true)

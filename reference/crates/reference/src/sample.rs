@@ -1,9 +1,10 @@
 //! The recorded samples: bodies by hand and chosen generated ones with the reports that the original gives, and bodies whose
 //! answers rest on document 01 alone.
-use crate::cases::{self, Case};
+use crate::cases::Case;
 use crate::{features, text};
 use generate::Family;
 use original::{Branch, Outcome, Want};
+use rules::tables::Lent;
 use std::collections::{BTreeMap, BTreeSet};
 use std::ops::RangeInclusive;
 
@@ -41,7 +42,7 @@ type Seen = BTreeMap<String, usize>;
 type Wanted<'a> = &'a dyn Fn(&BTreeSet<String>, &Seen) -> bool;
 
 /// The files of the samples by name; or what does not occur in them and should.
-pub fn files(cases: &[Case]) -> Result<Vec<(&'static str, String)>, String> {
+pub fn files(lent: &[Case], cases: &[Case]) -> Result<Vec<(&'static str, String)>, String> {
     let mut seen = Seen::new();
     let (mut judged, mut rest) = (Vec::new(), Vec::new());
     for case in cases {
@@ -53,14 +54,13 @@ pub fn files(cases: &[Case]) -> Result<Vec<(&'static str, String)>, String> {
     let by_hand = judged.len();
     choose(&mut seen, &mut judged);
     println!("judged by the original: {by_hand} by hand, {} generated", judged.len() - by_hand);
-    println!("by document 01 alone: {}", rest.len());
+    println!("by document 01 alone: {}, about lengths of tables: {}", rest.len(), lent.len());
     let missing = missing(&seen);
     if !missing.is_empty() {
         return Err(format!("missing: {}", missing.join(", ")));
     }
 
-    let mut stdin = HEAD.to_string();
-    let (mut stdout, mut reports) = (String::new(), String::new());
+    let (mut stdin, mut stdout) = (HEAD.to_string(), String::new());
     let mut names = BTreeSet::new();
     for (i, l) in judged.iter().chain(&rest).enumerate() {
         if !names.insert(&l.name) {
@@ -70,21 +70,30 @@ pub fn files(cases: &[Case]) -> Result<Vec<(&'static str, String)>, String> {
             stdin.push_str(SECOND);
         }
         stdin.push_str(&format!("{} {}\n", l.name, l.text));
-        stdout.push_str(&format!("== {}\n{}", l.name, read(&l.bytes)));
-        reports.push_str(&format!("== {}\n{}", l.name, l.report));
+        stdout.push_str(&format!("== {}\n{}", l.name, recorded(&l.name, &l.bytes, &l.report)?));
     }
-    Ok(vec![("stdin", stdin), ("stdout", stdout), ("data/reports", reports)])
+    stdin.push_str(THIRD);
+    for case in lent {
+        stdin.push_str(&format!("{} {}\n", case.name, case.text));
+        stdout.push_str(&format!("== {}\n{}", case.name, lent_text(case)?));
+    }
+    Ok(vec![("stdin", stdin), ("stdout", stdout)])
 }
 
-/// What the reader alone decides of a body.
-pub fn read(bytes: &[u8]) -> String {
-    match body::read(bytes) {
-        Err(r) => cases::refused(r),
-        Ok(b) => {
-            let rows = [b.types.len(), b.defs.len(), b.insts.len(), b.binds.len(), b.nodes.len()];
-            format!("read={}\n", rows.map(|n| n.to_string()).join(","))
-        }
+/// The report of a body, and behind it what `check_run` prints besides, by the rules; they have to give this report too.
+fn recorded(name: &str, bytes: &[u8], report: &str) -> Result<String, String> {
+    let text = rules::tables::text(bytes, &Lent::of(name));
+    match text.strip_prefix(report) {
+        Some(rest) if rest.starts_with("read=") || rest.starts_with("rest=") => Ok(text),
+        _ => Err(format!("{name}: the rules have another report")),
     }
+}
+
+/// What `check_run` prints of a case about the lengths of tables, by the rules; but for the hash it has to be what is expected by hand.
+fn lent_text(case: &Case) -> Result<String, String> {
+    let text = rules::tables::text(&case.bytes, &Lent::of(&case.name));
+    let shown: String = text.lines().filter(|l| !l.starts_with("hash=")).map(|l| format!("{l}\n")).collect();
+    if shown == case.expected { Ok(text) } else { Err(format!("{}: the rules give\n{shown}", case.name)) }
 }
 
 /// The report of a body that the original judges, if it is wanted; what occurs in it is counted then.
@@ -204,15 +213,32 @@ const HEAD: &str = "\
 #
 # Printed for each body:
 #   == and its name
-#   read= and the counts of types, defs, insts, binds and nodes where the reader accepts it; else answer= with the answer and its place,
-#   as document 01 writes them
+#   answer= and so on: the report of document 01, however long, from the tables of nodes, variables, made types and errors
+# and where the answer is 0
+#   read= and the counts of types, defs, insts, binds and nodes
+#   marked= and the variables with a negation mark
+#   equations= and their number, then for each that the log has whole equation= with expected, got, and 0 for success or its cause
+#   hash= and a number made of all cells of the tables of nodes, variables, made types, errors and equations, one after the other:
+#   it starts as 1, and with each cell it becomes 31 times itself plus the cell, modulo 4,294,967,291
+# and last
+#   rest=zero if, with the answer 0, every cell behind the used rows of these tables and all of the memory is zero, and the two tables of
+#   the file are those that the reader alone leaves in tables of its own; and if, with 3 to 13, every cell of every table is zero
+#   rest=same if, with 1 or 2, every cell of every table is as it was: before each body all are filled with 7
+#   rest=WRONG otherwise
 #
-# This file is made by reference/samples, with stdout and data/reports, which has the whole report of each body behind a line with
-# == and its name. First come the bodies that the original checker judges: those by hand, then generated ones, named by their family
-# and index.
+# If the sign before the last of a name is !, the last says what is lent: R, C, N, V, T, E, M the table of rows, cells, nodes,
+# variables, made types, errors, memory one cell too short; L every table eight cells longer; 0, 2, 3, 4 a log of so many cells. Else
+# every table has the length it has to have, and the log 6,144 cells.
+#
+# This file is made by reference/samples, with stdout. First come the bodies that the original checker judges: those by hand, then
+# generated ones, named by their family and index.
 ";
 
 const SECOND: &str = "\
 # From here on the answers rest on document 01 alone: refusals 1 and 3 to 6, rings, variables inside themselves. The reason of each
 # stands with it in reference/bodies.
+";
+
+const THIRD: &str = "\
+# Lengths of the lent tables: reference/lent.txt.
 ";

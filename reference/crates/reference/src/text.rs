@@ -1,7 +1,7 @@
 //! The text of a body on one line, as the programs of the gate read it.
 //!
 //! `/` is a line feed, `\hh` the byte with this hexadecimal number, `{N:T}` the text T N times, where `#` in T is the number of
-//! the turn counted from 0, `{N+S:T}` the same counted from S; T has no braces. Any other byte is itself.
+//! the turn counted from 0, `{N+S:T}` the same counted from S; T has no braces, N and S are at most 65,535. Any other byte is itself.
 
 /// The bytes of a text; none where it is not of this form.
 pub fn expand(text: &str) -> Option<Vec<u8>> {
@@ -12,9 +12,9 @@ pub fn expand(text: &str) -> Option<Vec<u8>> {
         let close = open + rest[open..].find('}')?;
         let (head, turn) = rest[open + 1..close].split_once(':')?;
         let (count, first) = head.split_once('+').unwrap_or((head, "0"));
-        let (count, first): (u32, u32) = (count.parse().ok()?, first.parse().ok()?);
-        for k in 0..count {
-            plain(turn, first + k, &mut out)?;
+        let (count, first): (u16, u16) = (count.parse().ok()?, first.parse().ok()?);
+        for k in 0..u32::from(count) {
+            plain(turn, u32::from(first) + k, &mut out)?;
         }
         rest = &rest[close + 1..];
     }

@@ -1,6 +1,8 @@
-//! What `typereport` prints, as an executable reading of document 01: `check` walks an accepted body, `report` reads any bytes.
+//! What `typereport` prints, as an executable reading of document 01: `check` walks an accepted body, `report` reads any bytes. What
+//! `check_run` prints is more: `tables::text`.
 pub mod finish;
 pub mod print;
+pub mod tables;
 pub mod types;
 pub mod unify;
 pub mod walk;

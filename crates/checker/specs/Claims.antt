@@ -1,0 +1,93 @@
+-- What is claimed of `check`, one citation each: demands 1 and 3. Start here. Each assumption is an argument of the statement.
+-- The contract of `check` (src/lib.rt) is one equation: its answer, with document 01's number and PLACE, and all lent tables as it leaves them are `checkOf` of Check,
+-- for every input bytes `s` and every lent tables `l`. That every call ends, and that nothing is read or written out of bounds, is part of the proof of each function.
+-- `readingOf` of Check is what the reader makes of the file, `equationsOf`, `typesOf` and `kindsOf` of File what the file raises by itself, `typesHeld`, `kindsHeld` and
+-- `bindsHeld` of Handed what is read of the tables that are handed back; `Way`, `Kinded`, `Sided`, `Meets` and `Agrees` are demand 3's words, in Ways of crate `theory`.
+use mathlib.Core.Path.{_≡_, ap, sym, _∙_}
+use mathlib.Core.Logic.{_↔_}
+use mathlib.Core.List.{List, _∷_, _++_}
+use mathlib.Core.Bool.{true}
+use Prim.Native.Nat.{ℕ, _<_, _≤_}
+use lib.ListN.{length}
+use Rattle.theory.specs.Program.{Equation}
+use Rattle.theory.specs.Basics.{All}
+use Rattle.theory.specs.Ways.{Way, Kinded, Agrees, Sided, Meets, Went, Failed}
+use Rattle.type_table.specs.declared.NodeId.{NodeId}
+use Rattle.forms.specs.declared.Fault.{Fault}
+use Rattle.body.specs.declared.Answer.the-variants as reading
+use Rattle.body.specs.Body.{most-bytes}
+use Rattle.checker.specs.declared.Totals.{Totals}
+use Rattle.checker.specs.declared.Answer.{Answer}
+use Rattle.checker.specs.declared.Answer.the-variants as answer
+use Rattle.checker.specs.Check.{Lent, cleared, tooShort, Held, held, totals, readingOf, checkOf}
+use Rattle.checker.specs.File.{equationsOf, typesOf, kindsOf}
+use Rattle.checker.specs.Handed.{typesHeld, kindsHeld, bindsHeld}
+use Rattle.checker.specs.Answers.{On0, On10to13}
+use Rattle.checker.specs.Answers as answers
+use Rattle.checker.specs.Limits.{Limited, Zero}
+use Rattle.checker.specs.Demand as demand
+
+module _ (s : List ℕ) (l : Lent) where
+  -- the answer to the file s, and what is then in the tables l lent for it
+  abbrev pub result : Held
+  result = checkOf s l
+
+  -- ── demand 1: answer, number, PLACE and tables on every input bytes ──
+
+  -- the promise of `check` holds of one answer and tables, and of no other
+  pub one-result : (a b : Answer) (u v : Lent) → held a u ≡ result → held b v ≡ result → (a ≡ b) × (u ≡ v)
+  one-result a b u v p q = (ap (λ (h : Held). h .answer) (p ∙ sym q), ap (λ (h : Held). h .tables) (p ∙ sym q))
+
+  -- 1 exactly over 65,536 bytes; it changes no table
+  pub on-1 : result .answer ≡ answer.TooLong → (most-bytes < length s) × (result .tables ≡ l)
+  on-1 = answers.on-1 s l
+
+  pub when-1 : most-bytes < length s → result .answer ≡ answer.TooLong
+  when-1 = answers.when-1 s l
+
+  -- 2 exactly with a lent table below its length, in a file that is not too long; it changes no table
+  pub on-2 : result .answer ≡ answer.ShortTable → (length s ≤ most-bytes) × (tooShort l ≡ true) × (result .tables ≡ l)
+  on-2 = answers.on-2 s l
+
+  pub when-2 : length s ≤ most-bytes → tooShort l ≡ true → result .answer ≡ answer.ShortTable
+  when-2 = answers.when-2 s l
+
+  -- 3 to 6 are the reader's, with the line; every lent table is zero throughout
+  pub on-3-to-6 : (x : Fault) (k : ℕ) → result .answer ≡ answer.Refused x k → (readingOf s .answer ≡ reading.Refused x k) × (result .tables ≡ cleared l)
+  on-3-to-6 = answers.on-3-to-6 s l
+
+  -- 10 to 13, and no other number, are the refusal in which the rules end, at a node of the body; every lent table is zero throughout
+  pub on-10-to-13 : (k : ℕ) (p : NodeId) → result .answer ≡ answer.Declined k p → On10to13 s l k (p .0) (result .tables)
+  on-10-to-13 = answers.on-10-to-13 s l
+
+  -- on 0 the rules end without a refusal, the totals are the row counts of the state in which they end, and the tables are those of that state
+  pub on-0 : (t : Totals) → result .answer ≡ answer.Checked t → On0 s l t (result .tables)
+  on-0 = answers.on-0 s l
+
+  -- at most 1,024 variables, 4,096 made types, 4,096 errors and 2,048 equations
+  pub limits : (t : Totals) → result .answer ≡ answer.Checked t → Limited t
+  limits = demand.limits s l
+
+  -- all of a table past its used rows is zero
+  pub zero-behind : (t : Totals) → result .answer ≡ answer.Checked t → Zero t (result .tables)
+  zero-behind = demand.zero s l
+
+  -- ── demand 3: the equations of the file and the bindings in the tables ──
+
+  -- answered 0 without an error, each equation with plain sides or Diverges as its got side: a way meets all the equations of the file exactly when it agrees with the
+  -- bindings handed back, and at least one such way exists
+  pub demand-3-without-error : (t : Totals) → result .answer ≡ answer.Checked t → t .errors ≡ 0 → let u = result .tables in
+      All (Sided (typesHeld t u)) (equationsOf s)
+      → ((w : Way) → Kinded (kindsHeld t u) w → All (Meets (typesHeld t u) w) (equationsOf s) ↔ Agrees (typesHeld t u) (bindsHeld t u) w)
+      × ((w : Way) × Kinded (kindsHeld t u) w × All (Meets (typesHeld t u) w) (equationsOf s))
+  demand-3-without-error = demand.exactly s l
+
+  -- the types and kinds in the tables are those of the file
+  pub held-types : (t : Totals) → result .answer ≡ answer.Checked t → (typesHeld t (result .tables) ≡ typesOf s) × (kindsHeld t (result .tables) ≡ kindsOf s)
+  held-types = demand.held-types s l
+
+-- whatever the answer and whatever is lent, the sides so up to and including the first equation q that fails or is refused 12: no way meets all the equations up to and
+-- including that one, unless its cause is kind order. The newest equation stands first
+pub demand-3-first-failure : (s : List ℕ) (after before : List Equation) (q : Equation) → equationsOf s ≡ after ++ q ∷ before → Failed (q .answer) → All Went before
+    → All (Sided (typesOf s)) (q ∷ before) → (w : Way) → Kinded (kindsOf s) w → All (Meets (typesOf s) w) (q ∷ before) → ⊥
+demand-3-first-failure = demand.no-way
