@@ -9,7 +9,6 @@ use checker::Answer;
 use checker::Totals;
 use forms::Fault;
 use libc::STDIN_FILENO;
-use libc::STDOUT_FILENO;
 use refs::Counts;
 use type_table::NodeId;
 
@@ -33,362 +32,14 @@ const LOG: usize = 6152;
 
 const MEMORY: usize = 96170;
 
-// ── printing ──
-
-// A text.
-fn put(s: &[u8]) {
-    io::write_all(STDOUT_FILENO, s);
-}
-
-// A text, and a number behind it.
-fn put_number(s: &[u8], n: u64) {
-    put(s);
-    io::print_decimal(STDOUT_FILENO, n);
-}
-
-// The same as a line.
-fn put_line(s: &[u8], n: u64) {
-    put_number(s, n);
-    put(b"\n");
-}
-
-// A comma, and the number of a cell.
-fn put_cell(t: &[u16], i: u32) {
-    put_number(b",", refs::at(t, i as usize) as u64);
-}
-
-// A text, and the number behind the flag at i; `-` where the flag is 0.
-fn put_option(s: &[u8], t: &[u16], i: u32) {
-    put(s);
-    if refs::at(t, i as usize) == 0 {
-        put(b"-");
-    } else {
-        put_number(b"", refs::at(t, i as usize + 1) as u64);
-    }
-}
-
-// ── made types ──
-
-// The word of a made type by its head.
-fn put_head(h: u16) {
-    match h {
-        5 => put(b"type=inst"),
-        7 => put(b"type=fn"),
-        8 => put(b"type=array"),
-        12 => put(b"type=var"),
-        13 => put(b"type=lambda"),
-        14 => put(b"type=ref"),
-        _ => put_number(b"type=head", h as u64),
-    }
-}
-
-// The k inputs from the number f on.
-fn put_inputs(t: &[u16], f: u16, k: u16) {
-    let mut i: u16 = 0;
-    while i < k {
-        put_cell(t, tables::INPUTS_FROM + f as u32 + i as u32);
-        i += 1;
-    }
-}
-
-// The made type of the number i: a lambda has an output and inputs.
-fn put_type(t: &[u16], i: u16) {
-    let at = i as u32 * 5;
-    let h = refs::at(t, at as usize);
-    put_head(h);
-    put_cell(t, at + 1);
-    if h == 13 {
-        put_cell(t, at + 2);
-        put_inputs(
-            t,
-            refs::at(t, at as usize + 3),
-            refs::at(t, at as usize + 4),
-        );
-    }
-    put(b"\n");
-}
-
-// The made types.
-fn put_types(t: &[u16], n: u16) {
-    put_line(b"types=", n as u64);
-    let mut i: u16 = 0;
-    while i < n {
-        put_type(t, i);
-        i += 1;
-    }
-}
-
-// ── variables ──
-
-// KIND.
-fn put_kind(k: u16) {
-    match k {
-        0 => put(b"var=any"),
-        1 => put(b"var=int"),
-        2 => put(b"var=float"),
-        _ => put_number(b"var=kind", k as u64),
-    }
-}
-
-// The variable v.
-fn put_var(t: &[u16], v: u16) {
-    let at = v as u32 * 6;
-    put_kind(refs::at(t, at as usize));
-    put_option(b",", t, at + 1);
-    put_option(b",", t, at + 3);
-    put(b"\n");
-}
-
-// The variables.
-fn put_vars(t: &[u16], n: u16) {
-    put_line(b"vars=", n as u64);
-    let mut v: u16 = 0;
-    while v < n {
-        put_var(t, v);
-        v += 1;
-    }
-}
-
-// A number of a list, behind a comma but for the first.
-fn put_item(first: bool, n: u16) {
-    if first {
-        put_number(b"", n as u64);
-    } else {
-        put_number(b",", n as u64);
-    }
-}
-
-// The numbers of the variables with a negation mark.
-fn put_marked(t: &[u16], n: u16) {
-    put(b"marked=");
-    let mut first = true;
-    let mut v: u16 = 0;
-    while v < n {
-        if refs::at(t, v as usize * 6 + 5) != 0 {
-            put_item(first, v);
-            first = false;
-        }
-        v += 1;
-    }
-    put(b"\n");
-}
-
-// ── nodes ──
-
-// EXTRA, by its tag and its number.
-fn put_extra(e: u16, x: u16) {
-    match e {
-        0 => put(b",-"),
-        1 => put_number(b",l", x as u64),
-        2 => put_number(b",f", x as u64),
-        3 => put_number(b",c", x as u64),
-        4 => put_number(b",i", x as u64),
-        5 => put(b",e"),
-        6 => put(b",o"),
-        _ => put_number(b",", x as u64),
-    }
-}
-
-// The node i: RAW, FINAL, EXTRA.
-fn put_node(t: &[u16], i: u16) {
-    let at = i as u32 * 6;
-    put_option(b"node=", t, at);
-    put_option(b",", t, at + 4);
-    put_extra(refs::at(t, at as usize + 2), refs::at(t, at as usize + 3));
-    put(b"\n");
-}
-
-// The nodes.
-fn put_nodes(t: &[u16], n: u16) {
-    let mut i: u16 = 0;
-    while i < n {
-        put_node(t, i);
-        i += 1;
-    }
-}
-
-// ── errors ──
-
-// P, by its tag and its number.
-fn put_span(p: u16, x: u16) {
-    match p {
-        0 => put_number(b",", x as u64),
-        1 => put_number(b",d", x as u64),
-        _ => put(b",sig"),
-    }
-}
-
-// How many values an error of this kind has.
-fn values(k: u16) -> u16 {
-    match k {
-        0 => 2,
-        1 => 1,
-        2 => 1,
-        3 => 2,
-        4 => 1,
-        5 => 3,
-        6 => 2,
-        7 => 2,
-        8 => 1,
-        9 => 2,
-        _ => 0,
-    }
-}
-
-// The first k values of the error i.
-fn put_values(t: &[u16], i: u16, k: u16) {
-    let mut j: u16 = 0;
-    while j < k {
-        put_cell(t, i as u32 * 9 + 6 + j as u32);
-        j += 1;
-    }
-}
-
-// The error i.
-fn put_error(t: &[u16], i: u16) {
-    let at = i as u32 * 9;
-    let k = refs::at(t, at as usize);
-    put_number(b"error=", k as u64);
-    put_cell(t, at + 1);
-    put_span(refs::at(t, at as usize + 2), refs::at(t, at as usize + 3));
-    put_option(b",", t, at + 4);
-    put_values(t, i, values(k));
-    put(b"\n");
-}
-
-// The errors.
-fn put_errors(t: &[u16], n: u16) {
-    put_line(b"errors=", n as u64);
-    let mut i: u16 = 0;
-    while i < n {
-        put_error(t, i);
-        i += 1;
-    }
-}
-
-// ── equations ──
-
-// The equation i: expected, got, answer.
-fn put_equation(t: &[u16], i: u16) {
-    let at = i as u32 * 3;
-    put_number(b"equation=", refs::at(t, at as usize) as u64);
-    put_cell(t, at + 1);
-    put_cell(t, at + 2);
-    put(b"\n");
-}
-
-// How many of n equations the log has whole.
-fn whole(t: &[u16], n: u16) -> u16 {
-    let mut i: u16 = 0;
-    while i < n {
-        if t.len() < i as usize * 3 + 3 {
-            return i;
-        }
-        i += 1;
-    }
-    i
-}
-
-// How many equations there are, and those that the log has whole.
-fn put_equations(t: &[u16], n: u16) {
-    put_line(b"equations=", n as u64);
-    let k = whole(t, n);
-    let mut i: u16 = 0;
-    while i < k {
-        put_equation(t, i);
-        i += 1;
-    }
-}
-
-// ── all cells ──
-
-// A hash with one number more.
-fn mix(h: u32, x: u16) -> u32 {
-    let k = (h as u64 * 31 + x as u64) % 4294967291;
-    if k < 4294967291 { k as u32 } else { 0 }
-}
-
-// A hash with all cells of a table.
-fn hash(h: u32, t: &[u16]) -> u32 {
-    let mut k = h;
-    let mut i = 0;
-    while i < t.len() {
-        k = mix(k, t[i]);
-        i += 1;
-    }
-    k
-}
-
-// The hash of all cells of nodes, variables, made types, errors and equations.
-fn put_hash(nodes: &[u16], vars: &[u16], types: &[u16], errors: &[u16], log: &[u16]) {
-    let a = hash(1, nodes);
-    let b = hash(a, vars);
-    let c = hash(b, types);
-    let d = hash(c, errors);
-    let e = hash(d, log);
-    put_line(b"hash=", e as u64);
-}
-
-// Every cell from the place f on has the number x.
-fn filled(t: &[u16], f: usize, x: u16) -> bool {
-    let mut i = f;
-    while i < t.len() {
-        if t[i] != x {
-            return false;
-        }
-        i += 1;
-    }
-    true
-}
-
-// Two tables have the same cells.
-fn same(t: &[u16], u: &[u16]) -> bool {
-    if t.len() != u.len() {
-        return false;
-    }
-    let mut i = 0;
-    while i < t.len() {
-        if t[i] != refs::at(u, i) {
-            return false;
-        }
-        i += 1;
-    }
-    true
-}
-
 // ── what stands behind the used rows ──
-
-// How many inputs the first n made types have.
-fn inputs(t: &[u16], n: u16) -> u32 {
-    let mut k: u32 = 0;
-    let mut i: u16 = 0;
-    while i < n {
-        let a = refs::at(t, i as usize * 5 + 4);
-        k += a as u32;
-        i += 1;
-    }
-    k
-}
-
-// Zeros between n rows of made types and the inputs, and behind the inputs.
-fn types_rest(t: &[u16], n: u16) -> bool {
-    let e = tables::INPUTS_FROM as usize;
-    let k = inputs(t, n);
-    if t.len() < e {
-        return false;
-    }
-    if filled(&t[0..e], n as usize * 5, 0) {
-        return filled(t, e + k as usize, 0);
-    }
-    false
-}
 
 // Zeros behind the used rows of variables and made types.
 fn walk_rest(n: Totals, vars: &[u16], types: &[u16]) -> bool {
     let v = n.vars;
     let t = n.types;
-    if filled(vars, v as usize * 6, 0) {
-        return types_rest(types, t);
+    if tables_text::filled(vars, v as usize * 6, 0) {
+        return tables_text::types_rest(types, t);
     }
     false
 }
@@ -397,8 +48,8 @@ fn walk_rest(n: Totals, vars: &[u16], types: &[u16]) -> bool {
 fn record_rest(n: Totals, errors: &[u16], log: &[u16]) -> bool {
     let e = n.errors;
     let q = n.equations;
-    if filled(errors, e as usize * 9, 0) {
-        return filled(log, whole(log, q) as usize * 3, 0);
+    if tables_text::filled(errors, e as usize * 9, 0) {
+        return tables_text::filled(log, tables_text::whole(log, q) as usize * 3, 0);
     }
     false
 }
@@ -414,7 +65,7 @@ fn rest_zero(
     memory: &[u16],
 ) -> bool {
     let k = n.declared.nodes;
-    if !filled(nodes, k as usize * 6, 0) {
+    if !tables_text::filled(nodes, k as usize * 6, 0) {
         return false;
     }
     if !walk_rest(n, vars, types) {
@@ -423,43 +74,7 @@ fn rest_zero(
     if !record_rest(n, errors, log) {
         return false;
     }
-    filled(memory, 0, 0)
-}
-
-// Every cell of every table has the number x.
-fn all_filled(
-    x: u16,
-    rows: &[u16],
-    cells: &[u16],
-    nodes: &[u16],
-    vars: &[u16],
-    types: &[u16],
-    errors: &[u16],
-    log: &[u16],
-    memory: &[u16],
-) -> bool {
-    if !filled(rows, 0, x) {
-        return false;
-    }
-    if !filled(cells, 0, x) {
-        return false;
-    }
-    if !filled(nodes, 0, x) {
-        return false;
-    }
-    if !filled(vars, 0, x) {
-        return false;
-    }
-    if !filled(types, 0, x) {
-        return false;
-    }
-    if !filled(errors, 0, x) {
-        return false;
-    }
-    if !filled(log, 0, x) {
-        return false;
-    }
-    filled(memory, 0, x)
+    tables_text::filled(memory, 0, 0)
 }
 
 // ── the tables of the file ──
@@ -505,10 +120,10 @@ fn read_same(
     if !counts_read(a, n) {
         return false;
     }
-    if !same(rows, own_rows) {
+    if !tables_text::same(rows, own_rows) {
         return false;
     }
-    same(cells, own_cells)
+    tables_text::same(cells, own_cells)
 }
 
 // The same on the first cells of longer tables.
@@ -541,13 +156,13 @@ fn as_read(s: &[u8], n: Counts, rows: &[u16], cells: &[u16]) -> bool {
 
 // The last line of a body: what the cells that no other line shows have.
 fn put_rest(good: bool, s: &[u8]) {
-    put(b"rest=");
+    tables_text::put(b"rest=");
     if good {
-        put(s);
+        tables_text::put(s);
     } else {
-        put(b"WRONG");
+        tables_text::put(b"WRONG");
     }
-    put(b"\n");
+    tables_text::put(b"\n");
 }
 
 // The report of a body that was checked, from its tables.
@@ -556,11 +171,11 @@ fn put_report(n: Totals, nodes: &[u16], vars: &[u16], types: &[u16], errors: &[u
     let t = n.types;
     let v = n.vars;
     let e = n.errors;
-    put(b"answer=0,-\n");
-    put_types(types, t);
-    put_vars(vars, v);
-    put_nodes(nodes, k);
-    put_errors(errors, e);
+    tables_text::put(b"answer=0,-\n");
+    tables_text::put_types(types, t);
+    tables_text::put_vars(vars, v);
+    tables_text::put_nodes(nodes, k);
+    tables_text::put_errors(errors, e);
 }
 
 // How many types, defs, insts, binds and nodes there are.
@@ -570,11 +185,11 @@ fn put_counts(n: Counts) {
     let k = n.insts;
     let b = n.binds;
     let m = n.nodes;
-    put_number(b"read=", t as u64);
-    put_number(b",", d as u64);
-    put_number(b",", k as u64);
-    put_number(b",", b as u64);
-    put_line(b",", m as u64);
+    tables_text::put_number(b"read=", t as u64);
+    tables_text::put_number(b",", d as u64);
+    tables_text::put_number(b",", k as u64);
+    tables_text::put_number(b",", b as u64);
+    tables_text::put_line(b",", m as u64);
 }
 
 // What the tables have and a report has not.
@@ -583,24 +198,24 @@ fn put_more(n: Totals, vars: &[u16], log: &[u16]) {
     let v = n.vars;
     let q = n.equations;
     put_counts(k);
-    put_marked(vars, v);
-    put_equations(log, q);
+    tables_text::put_marked(vars, v);
+    tables_text::put_equations(log, q);
 }
 
 // A refusal of the reader, by document 01's number, and its line.
 fn put_refused(f: Fault, n: usize) {
     match f {
-        Fault::Form => put_line(b"answer=3,", n as u64),
-        Fault::Limit => put_line(b"answer=4,", n as u64),
-        Fault::Reference => put_line(b"answer=5,", n as u64),
-        Fault::Levels => put_line(b"answer=6,", n as u64),
+        Fault::Form => tables_text::put_line(b"answer=3,", n as u64),
+        Fault::Limit => tables_text::put_line(b"answer=4,", n as u64),
+        Fault::Reference => tables_text::put_line(b"answer=5,", n as u64),
+        Fault::Levels => tables_text::put_line(b"answer=6,", n as u64),
     }
 }
 
 // A refusal of the walk and its node.
 fn put_declined(k: u16, p: NodeId) {
-    put_number(b"answer=", k as u64);
-    put_line(b",", p.0 as u64);
+    tables_text::put_number(b"answer=", k as u64);
+    tables_text::put_line(b",", p.0 as u64);
 }
 
 // What is printed of an answer.
@@ -616,11 +231,11 @@ fn put_answer(a: Answer) -> Shown {
     match a {
         Answer::Checked(n) => Shown::Body(n),
         Answer::TooLong => {
-            put(b"answer=1,-\n");
+            tables_text::put(b"answer=1,-\n");
             Shown::All(BEFORE)
         }
         Answer::ShortTable => {
-            put(b"answer=2,-\n");
+            tables_text::put(b"answer=2,-\n");
             Shown::All(BEFORE)
         }
         Answer::Refused(f, n) => {
@@ -680,12 +295,22 @@ fn put_tables(
         Shown::Body(n) => {
             put_report(n, nodes, vars, types, errors);
             put_more(n, vars, log);
-            put_hash(nodes, vars, types, errors, log);
+            tables_text::put_hash(nodes, vars, types, errors, log);
             let good = good_rest(s, n, rows, cells, nodes, vars, types, errors, log, memory);
             put_rest(good, b"zero");
         }
         Shown::All(x) => {
-            let good = all_filled(x, rows, cells, nodes, vars, types, errors, log, memory);
+            let good = tables_text::all_filled(
+                x,
+                rows,
+                cells,
+                nodes,
+                vars,
+                types,
+                errors,
+                log,
+                memory,
+            );
             put_whole(x, good);
         }
     }
@@ -858,9 +483,9 @@ fn mark(s: &[u8]) -> u8 {
 fn run_case(s: &[u8]) {
     let mut room = [0u8; body_text::ROOM];
     let e = body_text::find(s, 0, b' ');
-    put(b"== ");
-    put(&s[0..e]);
-    put(b"\n");
+    tables_text::put(b"== ");
+    tables_text::put(&s[0..e]);
+    tables_text::put(b"\n");
     let l = mark(&s[0..e]);
     run_text(&mut room, s, e, l);
 }

@@ -1,17 +1,15 @@
 -- What each return of the functions of `check` shows.
-use mathlib.Core.Path.{_≡_, refl, sym, ap, _∙_}
+use mathlib.Core.Path.{_≡_, refl, sym, ap, subst, _∙_}
 use mathlib.Core.Logic.{⊎-elim}
-use mathlib.Core.List.{List, [], _∷_, _++_, append-nil, append-assoc}
-use mathlib.Core.Option.{Option, none, some}
+use mathlib.Core.List.{List, [], _∷_, _++_, append-nil}
 use mathlib.Core.Bool.{Bool, true, false, _||_, false≢true}
 use Prim.Native.Nat.{ℕ, _+_, _-_, _≤_, _<_}
 use native.Mathlib.Omega.{arith}
-use lib.ListN.{length, take, drop, length-append, length-replicate, replicate, replicate-append-replicate}
-use lib.Seq.{sets, sets-eq, drop-length, drop-at, take-at, length-take-le}
+use lib.ListN.{length, take, drop, length-append, length-replicate, replicate}
+use lib.Seq.{length-front, sets, sets-eq, drop-length, drop-at, take-at, length-take-le}
 use lib.Dec.{ltb}
 use borrow.Author.Tests.{ltb-false, lt-ltb, le-ltb}
 use Rattle.theory.specs.Rules.{Shape, base, var, arr, ref, fn, fun, lam, err, div}
-use Rattle.theory.specs.Program.{run}
 use Rattle.type_table.specs.declared.NodeId.{NodeId}
 use Rattle.type_table.specs.Sound.{stateOf}
 use Rattle.type_table.specs.Tables.{length-rows, length-kinds}
@@ -26,23 +24,24 @@ use Rattle.forms.specs.declared.Fault.{Fault}
 use Rattle.record.specs.declared.Record.{Record}
 use Rattle.record.specs.declared.Ruled.{Ruled}
 use Rattle.record.specs.declared.Ruled.the-variants as ruled
-use Rattle.record.specs.Own.{log-at}
 use Rattle.record.specs.Steps.{State}
 use Rattle.record.specs.Encodes.{Encodes, Fits, inputCount, inputTotal}
 use Rattle.record.specs.Runs.{rows-are}
 use Rattle.record.specs.Regions.{length-errors}
-use Rattle.resolve.specs.Resolve.{type-body}
-use Rattle.resolve.specs.Body.{first-state, last-state, BodyTyped}
+use Rattle.resolve.specs.Body.{last-state, BodyTyped, TypedBy}
 use Rattle.well_formed.specs.Good.{WellFormed}
-use Rattle.well_formed.specs.Claims.{when-1, when-2, zero-on-3-to-6, well-formed-on-0}
+use Rattle.well_formed.specs.Claims.{when-1, when-2, well-formed-on-0}
 use Rattle.bounds.specs.Claims.{typed-in-memory, never-full, equations-bound, made-count, made-inputs}
 use Rattle.tables.specs.Rows.{padded, zeros, cellsOf, Fills}
 use Rattle.tables.specs.Types.{shapeInputs, inputsOf, typeTable, typeRoom}
 use Rattle.checker.specs.declared.Totals.{Totals}
 use Rattle.checker.specs.declared.Answer.{Answer}
 use Rattle.checker.specs.declared.Answer.the-variants as answer
-use Rattle.checker.specs.Check.{Lent, lent, cleared, nodes-length, vars-length, types-length, errors-length, memory-length, tooShort, Held, held, firstMade, madeTypes, totals, filled, declined, endedBy, typed, readingOf, readBy, checkOf}
-use Rattle.checker.specs.Parts.{counted, Filled, Cleared, Exact, TypedRead, CheckedExact}
+use Rattle.checker.specs.declared.Walked.{Walked}
+use Rattle.checker.specs.declared.Walked.the-variants as walked
+use Rattle.checker.specs.Check.{Lent, lent, cleared, nodes-length, vars-length, types-length, errors-length, memory-length, tooShort, held, firstMade, madeTypes, totals, filled, typed, readingOf, checkOf}
+use Rattle.checker.specs.Answers.{read-well-formed}
+use Rattle.checker.specs.Parts.{counted, Filled, ReadAs, WalkRead, WalkedAs, WalkedIn, HandedAs, HandedBack}
 
 -- ── lengths ──
 
@@ -129,10 +128,6 @@ unfolding cellsOf inputTotal
 inputs-total [] = refl
 inputs-total (x ∷ l) = rw (length-append (shapeInputs x) (inputsOf l), inputs-count x, inputs-total l)
 
--- nothing is behind a list of the length that was asked for
-padded-whole : (t : List ℕ) → padded (length t) t ≡ t
-padded-whole t = let z : length t - length t ≡ 0 = omega arith in rw z (append-nil t)
-
 module _ (n : Counts) (rows cells : List ℕ) (w : WellFormed n rows cells) (l : Lent) (long : Long l) where
   -- the state in which the body ends
   abbrev last : State
@@ -147,48 +142,27 @@ module _ (n : Counts) (rows cells : List ℕ) (w : WellFormed n rows cells) (l :
   inputs-fit = rw (inputs-total (madeTypes n last)) (made-inputs n rows cells w (fnLine rows cells .output .0))
 
   -- the tables that were filled are those of the state in which the body ends
-  tables-filled : (m : List ℕ) (c : Record) (nodes vars types errors log : List ℕ) → length m ≡ length (l .memory) → length rows ≡ length (l .rows) → length cells ≡ length (l .cells) → Encodes m c last
-      → Filled m c n (l .nodes) (l .vars) (l .types) (l .errors) (l .log) nodes vars types errors log
-      → lent rows cells nodes vars types errors log (zeros m) ≡ filled n rows cells last l
+  tables-filled : (m : List ℕ) (c : Record) (u : Lent) → length m ≡ length (l .memory) → u .rows ≡ padded (length (l .rows)) rows → u .cells ≡ padded (length (l .cells)) cells → u .memory ≡ zeros (l .memory)
+      → Encodes m c last → Filled m c n (l .nodes) (l .vars) (l .types) (l .errors) (l .log) (u .nodes) (u .vars) (u .types) (u .errors) (u .log) → u ≡ filled n rows cells last l
   unfolding filled
-  tables-filled m c nodes vars types errors log size x y e f =
+  tables-filled m c u size x y z e f =
       let a = f .nodes-filled .fills last e (w .limited .nodes, omega (arith, long .nodes, w .limited .nodes)) in
       let b = f .vars-filled .fills last e (omega (arith, fits .vars, long .vars)) in
       let d = f .types-filled (w .limited .types) .fills last e (omega (arith, made-count n rows cells w (fnLine rows cells .output .0)), omega (arith, inputs-fit, w .limited .nodes, long .types)) in
       let g = f .errors-filled .fills last e (omega (arith, fits .errors, long .errors)) in
       let h = f .log-filled .fills last e (omega (arith, equations-bound n rows cells w (fnLine rows cells .output .0), w .limited .nodes, size, long .memory)) in
-      rw (a, b, d, g, h, size, ← x, ← y, padded-whole rows, padded-whole cells)
+      rw (← x, ← y, ← a, ← b, ← d, ← g, ← h, ← z)
 
--- the walk's memory is long enough
-long-memory : (l : Lent) → Long l → log-at ≤ length (l .memory)
-long-memory l h = omega (arith, h .memory)
+-- ── reading and typing ──
 
-module _ (n : Counts) (l : Lent) (m : List ℕ) (c : Record) (size : length m ≡ length (l .memory)) where
-  -- a body that is answered 0
-  pub typed-done : (r : Ruled) (nodes vars types errors log memory : List ℕ) (t : Totals) → r ≡ ruled.Done c → BodyTyped (l .memory) m r n (l .rows) (l .cells)
-      → Filled m c n (l .nodes) (l .vars) (l .types) (l .errors) (l .log) nodes vars types errors log → memory ≡ zeros m → t ≡ counted n c
-      → TypedRead n l (answer.Checked t) (lent (l .rows) (l .cells) nodes vars types errors log memory)
-  unfolding typed
-  typed-done r nodes vars types errors log memory t g b f z k = record {
-    by = λ w q.
-        let long = not-short l (q .long) in
-        let d = typed-in-memory n (l .rows) (l .cells) w (l .memory) m (ruled.Done c) (long-memory l long) (rw g at b) in
-        let u = tables-filled n (l .rows) (l .cells) w l long m c nodes vars types errors log size refl refl (d .1) f in
-        rw (d .0, z, u, k, counted-totals m c (last-state n (l .rows) (l .cells)) n (d .1));
-  }
+module _ (n : Counts) (rows cells m m′ : List ℕ) (r : Ruled) (b : BodyTyped m m′ r n rows cells) where
+  -- a body that ends without a refusal
+  pub walk-done : (c : Record) → r ≡ ruled.Done c → WalkRead n rows cells m (walked.Typed n c) m′
+  walk-done c e = record { by = λ w large. (refl, typed-in-memory n rows cells w m m′ (ruled.Done c) large (rw e at b)) }
 
-  -- a body that is refused in walk order
-  pub typed-refused : (r : Ruled) (rows cells nodes vars types errors log memory : List ℕ) (k : ℕ) (p : NodeId) → r ≡ ruled.Refused c k p → BodyTyped (l .memory) m r n (l .rows) (l .cells)
-      → rows ≡ zeros (l .rows) → cells ≡ zeros (l .cells) → Cleared (l .nodes) (l .vars) (l .types) (l .errors) (l .log) m nodes vars types errors log memory
-      → TypedRead n l (answer.Declined k p) (lent rows cells nodes vars types errors log memory)
-  unfolding typed cleared
-  typed-refused r rows cells nodes vars types errors log memory k p g b x y z = record {
-    by = λ w q.
-        let d = typed-in-memory n (l .rows) (l .cells) w (l .memory) m (ruled.Refused c k p) (long-memory l (not-short l (q .long))) (rw g at b) in
-        rw (d .0, d .1, x, y, z .nodes-zero, z .vars-zero, z .types-zero, z .errors-zero, z .log-zero, z .memory-zero, size);
-  }
-
--- ── a file, its tables of declarations of just their lengths ──
+  -- a body that is refused
+  pub walk-refused : (c : Record) (k : ℕ) (p : NodeId) → r ≡ ruled.Refused c k p → WalkRead n rows cells m (walked.Declined k p) m′
+  walk-refused c k p e = record { by = λ w large. let t = typed-in-memory n rows cells w m m′ (ruled.Refused c k p) large (rw e at b) in (t .0, t .1) }
 
 -- of tables that are long enough the reader takes the lengths alone
 reading-lengths : (s rows cells rows′ cells′ : List ℕ) → length s ≤ most-bytes → rows-length ≤ length rows → cells-length ≤ length cells → length rows′ ≡ length rows → length cells′ ≡ length cells
@@ -202,74 +176,73 @@ reading-lengths s rows cells rows′ cells′ h a b p q =
     settled (refused f k) = rw (p, q)
     settled (read n c r) = refl
 
--- the same of zeros
-reading-zeros : (s rows cells : List ℕ) (n k : ℕ) → length s ≤ most-bytes → rows-length ≤ length rows → cells-length ≤ length cells → length rows ≡ n → length cells ≡ k
+-- so those of zeros
+reading-zeros : (s rows cells : List ℕ) (n k : ℕ) → length s ≤ most-bytes → rows-length ≤ n → cells-length ≤ k → length rows ≡ n → length cells ≡ k
     → bodyOf s rows cells ≡ bodyOf s (replicate n 0) (replicate k 0)
 reading-zeros s rows cells n k h a b p q =
-    reading-lengths s rows cells (replicate n 0) (replicate k 0) h a b (length-replicate {A = ℕ} n 0 ∙ sym p) (length-replicate {A = ℕ} k 0 ∙ sym q)
+    reading-lengths s rows cells (replicate n 0) (replicate k 0) h (omega arith) (omega arith) (length-replicate {A = ℕ} n 0 ∙ sym p) (length-replicate {A = ℕ} k 0 ∙ sym q)
 
-module _ (s : List ℕ) (l : Lent) (h : length s ≤ most-bytes) (x : Exact l) where
-  -- what stood in the tables does not matter
-  reading-is : bodyOf s (l .rows) (l .cells) ≡ readingOf s
-  unfolding readingOf
-  reading-is = let long = not-short l (x .long) in reading-zeros s (l .rows) (l .cells) rows-length cells-length h (long .rows) (long .cells) (x .rows) (x .cells)
+-- what stood in the tables does not matter
+reading-is : (s rows cells : List ℕ) → length s ≤ most-bytes → length rows ≡ rows-length → length cells ≡ cells-length → bodyOf s rows cells ≡ readingOf s
+unfolding readingOf
+reading-is s rows cells h p q = reading-zeros s rows cells rows-length cells-length h (omega arith) (omega arith) p q
 
-  -- by what the reader answers
-  read-by : (a : Reading) (rows cells : List ℕ) → body.held a rows cells ≡ bodyOf s (l .rows) (l .cells) → readBy a rows cells l ≡ checkOf s l
-  unfolding checkOf
-  read-by a rows cells e = rw (le-ltb most-bytes (length s) h, x .long, ← reading-is, ← e)
-
-  -- what the reader cannot answer to a file that is not too long, in tables that are long enough
-  not-long : bodyOf s (l .rows) (l .cells) .answer ≡ reading.TooLong → ⊥
-  not-long e = let g = when-1 s (l .rows) (l .cells) .0 e in omega arith
-
-  not-lacking : bodyOf s (l .rows) (l .cells) .answer ≡ reading.ShortTable → ⊥
-  not-lacking e =
-      let long = not-short l (x .long) in
-      let g = when-2 s (l .rows) (l .cells) .0 e in
-      ⊎-elim (λ v. omega (arith, long .rows)) (λ v. omega (arith, long .cells)) (g .1)
-
--- of the tables of declarations a walk takes the lengths alone
-ended-lengths : (l : Lent) (n : Counts) (rows cells : List ℕ) → length rows ≡ length (l .rows) → length cells ≡ length (l .cells) → (o : Option (Unit {0})) (t : State)
-    → endedBy n rows cells o t (lent rows cells (l .nodes) (l .vars) (l .types) (l .errors) (l .log) (l .memory)) ≡ endedBy n rows cells o t l
-unfolding filled cleared
-ended-lengths l n rows cells a b (some u) t = rw (a, b)
-ended-lengths l n rows cells a b none t = rw (a, b)
-
-module _ (s : List ℕ) (l : Lent) (a : Reading) (rows cells : List ℕ) (e : body.held a rows cells ≡ bodyOf s (l .rows) (l .cells)) where
-  -- 3 to 6
-  pub exact-refused : (f : Fault) (k : ℕ) (nodes vars types errors log memory : List ℕ) → a ≡ reading.Refused f k
-      → Cleared (l .nodes) (l .vars) (l .types) (l .errors) (l .log) (l .memory) nodes vars types errors log memory
-      → CheckedExact s l (answer.Refused f k) (lent rows cells nodes vars types errors log memory)
-  unfolding cleared
-  exact-refused f k nodes vars types errors log memory g z = record {
-    by = λ h x.
-        let r = zero-on-3-to-6 s (l .rows) (l .cells) f k (ap (λ (t : Read). t .answer) (sym e) ∙ g) in
-        let i : rows ≡ zeros (l .rows) = ap (λ (t : Read). t .rows) e ∙ r .0 in
-        let j : cells ≡ zeros (l .cells) = ap (λ (t : Read). t .cells) e ∙ r .1 in
-        rw (i, j, z .nodes-zero, z .vars-zero, z .types-zero, z .errors-zero, z .log-zero, z .memory-zero) (rw g at (read-by s l h x a rows cells e));
-  }
+module _ (s rows cells m : List ℕ) (a : Reading) (rows′ cells′ : List ℕ) (e : body.held a rows′ cells′ ≡ bodyOf s rows cells) where
+  -- a body that was read, by what typing gave
+  walk-by : (n : Counts) → body.held (reading.Body n) rows′ cells′ ≡ readingOf s → (w : Walked) (m′ : List ℕ) → ReadAs n rows′ cells′ w m′ → WalkedAs s w rows′ cells′ m′
+  walk-by n g (walked.Typed k c) m′ t = (ap (λ (i : Counts). body.held (reading.Body i) rows′ cells′) (t .0) ∙ g, subst (λ (i : Counts). TypedBy m′ (ruled.Done c) i rows′ cells′) (sym (t .0)) (t .1))
+  walk-by n g (walked.Declined k p) m′ t = (n, g, t)
+  walk-by n g (walked.Refused x k) m′ t = absurd t
+  walk-by n g walked.Unread m′ t = absurd t
 
   -- a body that was read
-  pub exact-read : (n : Counts) (r : Answer) (u : Lent) → a ≡ reading.Body n → length rows ≡ length (l .rows) → length cells ≡ length (l .cells)
-      → TypedRead n (lent rows cells (l .nodes) (l .vars) (l .types) (l .errors) (l .log) (l .memory)) r u → CheckedExact s l r u
-  unfolding tooShort typed
-  exact-read n r u g p q t = record {
-    by = λ h x.
-        let w : WellFormed n rows cells = rw (← e) at (well-formed-on-0 s (l .rows) (l .cells) n (ap (λ (z : Read). z .answer) (sym e) ∙ g)) in
-        let v = t .by w (record { rows = p ∙ x .rows; cells = q ∙ x .cells; long = rw (p, q) (x .long) }) in
-        let o = run (type-body n rows cells) (first-state rows cells) in
-        v ∙ ended-lengths l n rows cells p q (o .0) (o .1) ∙ rw g at (read-by s l h x a rows cells e);
+  pub walked-body : (n : Counts) (w : Walked) (m′ : List ℕ) → a ≡ reading.Body n → WalkRead n rows′ cells′ m w m′ → WalkedIn s rows cells m w rows′ cells′ m′
+  walked-body n w m′ g t = record {
+    by = λ h p q large.
+        let f : WellFormed n rows′ cells′ = rw (← e) at (well-formed-on-0 s rows cells n (ap (λ (z : Read). z .answer) (sym e) ∙ g)) in
+        walk-by n (rw g at e ∙ reading-is s rows cells h p q) w m′ (t .by f large);
   }
 
+  -- 3 to 6
+  pub walked-refused : (x : Fault) (k : ℕ) → a ≡ reading.Refused x k → WalkedIn s rows cells m (walked.Refused x k) rows′ cells′ m
+  walked-refused x k g = record { by = λ h p q large. ap (λ (z : Read). z .answer) (sym (reading-is s rows cells h p q) ∙ sym e) ∙ g }
+
   -- 1 and 2 are not met
-  pub exact-long : (r : Answer) (u : Lent) → a ≡ reading.TooLong → CheckedExact s l r u
-  exact-long r u g = record { by = λ h x. absurd (not-long s l h x (ap (λ (z : Read). z .answer) (sym e) ∙ g)) }
+  pub walked-long : a ≡ reading.TooLong → WalkedIn s rows cells m walked.Unread rows′ cells′ m
+  walked-long g = record { by = λ h p q large. let b = when-1 s rows cells .0 (ap (λ (z : Read). z .answer) (sym e) ∙ g) in omega arith }
 
-  pub exact-short : (r : Answer) (u : Lent) → a ≡ reading.ShortTable → CheckedExact s l r u
-  exact-short r u g = record { by = λ h x. absurd (not-lacking s l h x (ap (λ (z : Read). z .answer) (sym e) ∙ g)) }
+  pub walked-short : a ≡ reading.ShortTable → WalkedIn s rows cells m walked.Unread rows′ cells′ m
+  walked-short g = record {
+    by = λ h p q large. ⊎-elim (λ v. omega arith) (λ v. omega arith) (when-2 s rows cells .0 (ap (λ (z : Read). z .answer) (sym e) ∙ g) .1);
+  }
 
--- ── a file, whatever the lengths of its tables ──
+-- ── handing back ──
+
+-- a body that ends without a refusal
+pub handed-typed : (w : Walked) (n : Counts) (c : Record) (l : Lent) (t : Totals) (nodes vars types errors log memory : List ℕ) → w ≡ walked.Typed n c → t ≡ counted n c → memory ≡ zeros (l .memory)
+    → Filled (l .memory) c n (l .nodes) (l .vars) (l .types) (l .errors) (l .log) nodes vars types errors log
+    → HandedBack w l (answer.Checked t) (lent (l .rows) (l .cells) nodes vars types errors log memory)
+handed-typed w n c l t nodes vars types errors log memory e k z f = rw e (record { by = (ap answer.Checked k, refl, refl, z, f) })
+
+-- 10 to 13
+pub handed-declined : (w : Walked) (k : ℕ) (p : NodeId) (l u : Lent) → w ≡ walked.Declined k p → u ≡ cleared l → HandedBack w l (answer.Declined k p) u
+handed-declined w k p l u e z = rw e (record { by = (refl, z) })
+
+-- 3 to 6
+pub handed-refused : (w : Walked) (x : Fault) (k : ℕ) (l u : Lent) → w ≡ walked.Refused x k → u ≡ cleared l → HandedBack w l (answer.Refused x k) u
+handed-refused w x k l u e z = rw e (record { by = (refl, z) })
+
+-- what cannot be
+pub handed-unread : (w : Walked) (l : Lent) (r : Answer) (u : Lent) → w ≡ walked.Unread → HandedBack w l r u
+handed-unread w l r u e = rw e (record { by = tt })
+
+-- all tables zero
+pub all-cleared : (l u : Lent) → u .rows ≡ zeros (l .rows) → u .cells ≡ zeros (l .cells) → u .nodes ≡ zeros (l .nodes) → u .vars ≡ zeros (l .vars) → u .types ≡ zeros (l .types) → u .errors ≡ zeros (l .errors)
+    → u .log ≡ zeros (l .log) → u .memory ≡ zeros (l .memory) → u ≡ cleared l
+unfolding cleared
+all-cleared l u a b c d e f g h = rw (← a, ← b, ← c, ← d, ← e, ← f, ← g, ← h)
+
+-- ── a file ──
 
 module _ (s : List ℕ) (l : Lent) where
   -- 1
@@ -282,82 +255,7 @@ module _ (s : List ℕ) (l : Lent) where
   unfolding checkOf
   check-short h q = rw (le-ltb most-bytes (length s) h, q)
 
--- rows, and zeros behind them in two parts
-padded-on : (a rows : List ℕ) (n k : ℕ) → a ≡ padded n rows → length a ≡ n → n ≤ k → a ++ replicate (k - n) 0 ≡ padded k rows
-padded-on a rows n k e z h =
-    let i : ℕ = n - length rows in
-    let q : length rows + i ≡ n = omega (arith, length-append rows (replicate i 0), length-replicate {A = ℕ} i 0, ap length e) in
-    let j : i + (k - n) ≡ k - length rows = omega arith in
-    rw (e, append-assoc, replicate-append-replicate, j)
-
--- zeros in two parts
-zeros-on : (a : List ℕ) (n k : ℕ) → a ≡ replicate n 0 → n ≤ k → a ++ replicate (k - n) 0 ≡ replicate k 0
-zeros-on a n k e h = let j : n + (k - n) ≡ k = omega arith in rw (e, replicate-append-replicate, j)
-
--- the same answer and tables, but for those of declarations
-with-declared : (r r′ : Answer) (u u′ : Lent) (a a′ b b′ : List ℕ) → held r u ≡ held r′ u′ → a ≡ a′ → b ≡ b′
-    → held r (lent a b (u .nodes) (u .vars) (u .types) (u .errors) (u .log) (u .memory)) ≡ held r′ (lent a′ b′ (u′ .nodes) (u′ .vars) (u′ .types) (u′ .errors) (u′ .log) (u′ .memory))
-with-declared r r′ u u′ a a′ b b′ e p q =
-    rw (p, q)
-    (ap (λ (z : Held). held (z .answer) (lent a′ b′ (z .tables .nodes) (z .tables .vars) (z .tables .types) (z .tables .errors) (z .tables .log) (z .tables .memory))) e)
-
-module _ (s : List ℕ) (l : Lent) (h : length s ≤ most-bytes) (q : tooShort l ≡ false) (p c : List ℕ) (k : length p ≡ rows-length) (j : length c ≡ cells-length) where
-  -- the tables of declarations cut to their lengths
-  abbrev cut : Lent
-  cut = lent p c (l .nodes) (l .vars) (l .types) (l .errors) (l .log) (l .memory)
-
-  -- what stands behind them
-  abbrev rowsBehind : List ℕ
-  rowsBehind = replicate (length (l .rows) - rows-length) 0
-
-  abbrev cellsBehind : List ℕ
-  cellsBehind = replicate (length (l .cells) - cells-length) 0
-
-  -- they are long enough
-  pub cut-exact : Exact cut
-  unfolding tooShort
-  cut-exact =
-      let a = or-false (ltb (length (l .rows)) rows-length) _ q in
-      let b = or-false (ltb (length (l .cells)) cells-length) _ (a .1) in
-      record {
-        rows = k;
-        cells = j;
-        long = rw (k, j) (b .1);
-      }
-
-  module _ (rows cells a b : List ℕ) (r : Answer) (u : Lent) (x : length a ≡ rows-length) (y : length b ≡ cells-length) (e : a ≡ u .rows) (f : b ≡ u .cells) where
-    -- the whole tables
-    abbrev whole : Lent
-    whole = lent (a ++ rowsBehind) (b ++ cellsBehind) (u .nodes) (u .vars) (u .types) (u .errors) (u .log) (u .memory)
-
-    -- tables that are cleared
-    whole-cleared : (r′ : Answer) → held r u ≡ held r′ (cleared cut) → held r whole ≡ held r′ (cleared l)
-    unfolding cleared
-    whole-cleared r′ z =
-        let long = not-short l q in
-        with-declared r r′ u (cleared cut) (a ++ rowsBehind) (zeros (l .rows)) (b ++ cellsBehind) (zeros (l .cells)) z
-        (zeros-on a rows-length (length (l .rows)) (e ∙ ap (λ (t : Held). t .tables .rows) z ∙ ap (λ (i : ℕ). replicate i 0) k) (long .rows))
-        (zeros-on b cells-length (length (l .cells)) (f ∙ ap (λ (t : Held). t .tables .cells) z ∙ ap (λ (i : ℕ). replicate i 0) j) (long .cells))
-
-    -- tables of a body
-    whole-ended : (n : Counts) (o : Option (Unit {0})) (t : State) → held r u ≡ endedBy n rows cells o t cut → held r whole ≡ endedBy n rows cells o t l
-    unfolding filled
-    whole-ended n (some v) t z =
-        let long = not-short l q in
-        with-declared r (answer.Checked (totals n t)) u (filled n rows cells t cut) (a ++ rowsBehind) (padded (length (l .rows)) rows) (b ++ cellsBehind) (padded (length (l .cells)) cells) z
-        (padded-on a rows rows-length (length (l .rows)) (e ∙ ap (λ (t : Held). t .tables .rows) z ∙ ap (λ (i : ℕ). padded i rows) k) x (long .rows))
-        (padded-on b cells cells-length (length (l .cells)) (f ∙ ap (λ (t : Held). t .tables .cells) z ∙ ap (λ (i : ℕ). padded i cells) j) y (long .cells))
-    whole-ended n none t z = whole-cleared (declined (t .stop)) z
-
-    -- by what the reader answers
-    whole-by : (o : Reading) → readingOf s .answer ≡ o → held r u ≡ readBy o rows cells cut → held r whole ≡ readBy o rows cells l
-    unfolding typed
-    whole-by (reading.Body n) g z = whole-ended n ((run (type-body n rows cells) (first-state rows cells)) .0) ((run (type-body n rows cells) (first-state rows cells)) .1) z
-    whole-by reading.TooLong g z = absurd (not-long s cut h cut-exact (ap (λ (t : Read). t .answer) (reading-is s cut h cut-exact) ∙ g))
-    whole-by reading.ShortTable g z = absurd (not-lacking s cut h cut-exact (ap (λ (t : Read). t .answer) (reading-is s cut h cut-exact) ∙ g))
-    whole-by (reading.Refused i o) g z = whole-cleared (answer.Refused i o) z
-
--- a table whose cells from n on are zeros, and its length
+-- a table whose cells from n on are zeros: what stands behind, and the length of the rest
 behind-zero : (t z : List ℕ) (n : ℕ) → n ≤ length t → z ≡ sets t n (replicate (length t - n) 0) → (drop n z ≡ replicate (length t - n) 0) × (length (take n z) ≡ n)
 behind-zero t z n h e =
     let v : List ℕ = replicate (length t - n) 0 in
@@ -366,25 +264,54 @@ behind-zero t z n h e =
     let i : length (take n t) ≡ n = length-take-le n t h in
     (rw g (drop-at (take n t) v n i), rw g (rw (take-at (take n t) v n i) i))
 
+-- the first part of such a table, changed, is padded to its length
+whole-padded : (t z a : List ℕ) (n : ℕ) → n ≤ length t → z ≡ sets t n (replicate (length t - n) 0) → length a ≡ length (take n z) → a ++ drop n z ≡ padded (length t) a
+whole-padded t z a n h e k = let b = behind-zero t z n h e in rw (b .0, k, b .1)
+
+-- and the whole has its length
+pub whole-length : (t z a : List ℕ) (n : ℕ) → length z ≡ length t → length a ≡ length (take n z) → length (a ++ drop n z) ≡ length t
+whole-length t z a n e k = length-front z a n k ∙ e
+
+-- a part of a table that is long enough
+pub part-fits : (t z : List ℕ) (n : ℕ) → n ≤ length t → length z ≡ length t → n ≤ length z
+part-fits t z n h e = rw e h
+
+-- its length
+pub part-length : (t z : List ℕ) (n : ℕ) → n ≤ length t → length z ≡ length t → n ≡ length (take n z)
+part-length t z n h e = sym (length-take-le n z (part-fits t z n h e))
+
+-- of tables that are cleared only the lengths count
+cleared-lengths : (l u : Lent) → length (u .rows) ≡ length (l .rows) → length (u .cells) ≡ length (l .cells) → length (u .memory) ≡ length (l .memory)
+    → cleared (lent (u .rows) (u .cells) (l .nodes) (l .vars) (l .types) (l .errors) (l .log) (u .memory)) ≡ cleared l
+unfolding cleared
+cleared-lengths l u a b c = rw (a, b, c)
+
 module _ (s : List ℕ) (l : Lent) (h : length s ≤ most-bytes) (q : tooShort l ≡ false) (z c : List ℕ) (e : z ≡ sets (l .rows) rows-length (replicate (length (l .rows) - rows-length) 0))
-    (f : c ≡ sets (l .cells) cells-length (replicate (length (l .cells) - cells-length) 0)) where
-  -- the parts have their lengths, and zeros behind them
-  rows-cut : (drop rows-length z ≡ replicate (length (l .rows) - rows-length) 0) × (length (take rows-length z) ≡ rows-length)
-  rows-cut = behind-zero (l .rows) z rows-length (not-short l q .rows) e
+    (f : c ≡ sets (l .cells) cells-length (replicate (length (l .cells) - cells-length) 0)) (i : length z ≡ length (l .rows)) (j : length c ≡ length (l .cells)) (a b m : List ℕ)
+    (x : length a ≡ length (take rows-length z)) (y : length b ≡ length (take cells-length c)) (v : length m ≡ length (l .memory)) where
+  -- the tables behind reading and typing
+  abbrev behindWalk : Lent
+  behindWalk = lent (a ++ drop rows-length z) (b ++ drop cells-length c) (l .nodes) (l .vars) (l .types) (l .errors) (l .log) m
 
-  cells-cut : (drop cells-length c ≡ replicate (length (l .cells) - cells-length) 0) × (length (take cells-length c) ≡ cells-length)
-  cells-cut = behind-zero (l .cells) c cells-length (not-short l q .cells) f
+  -- those that are cleared
+  behind-cleared : cleared behindWalk ≡ cleared l
+  behind-cleared = cleared-lengths l behindWalk (whole-length (l .rows) z a rows-length i x) (whole-length (l .cells) c b cells-length j y) v
 
-  -- the whole tables, from what was done in the parts
-  pub check-whole : (r : Answer) (a b nodes vars types errors log memory : List ℕ) → length a ≡ length (take rows-length z) → length b ≡ length (take cells-length c)
-      → CheckedExact s (lent (take rows-length z) (take cells-length c) (l .nodes) (l .vars) (l .types) (l .errors) (l .log) (l .memory)) r (lent a b nodes vars types errors log memory)
-      → held r (lent (a ++ drop rows-length z) (b ++ drop cells-length c) nodes vars types errors log memory) ≡ checkOf s l
-  unfolding checkOf
-  check-whole r a b nodes vars types errors log memory x y g =
-      let k = rows-cut in
-      let j = cells-cut in
-      let t = cut-exact s l h q (take rows-length z) (take cells-length c) (k .1) (j .1) in
-      let v = rw (le-ltb most-bytes (length s) h, t .long) at (g .by h t) in
-      rw (le-ltb most-bytes (length s) h, q, k .0, j .0)
-      (whole-by s l h q (take rows-length z) (take cells-length c) (k .1) (j .1) (readingOf s .rows) (readingOf s .cells) a b r (lent a b nodes vars types errors log memory) (x ∙ k .1) (y ∙ j .1) refl refl
-      (readingOf s .answer) refl v)
+  -- by what reading and typing gave
+  check-by : (w : Walked) → WalkedAs s w a b m → (r : Answer) (u : Lent) → HandedAs w behindWalk r u → held r u ≡ checkOf s l
+  unfolding checkOf typed
+  check-by (walked.Typed n d) g r u t =
+      let long = not-short l q in
+      let k : WellFormed n a b = rw (← g .0) at (read-well-formed s n (ap (λ (o : Read). o .answer) (sym (g .0)))) in
+      let p = tables-filled n a b k l long m d u v (t .1 ∙ whole-padded (l .rows) z a rows-length (long .rows) e x) (t .2 ∙ whole-padded (l .cells) c b cells-length (long .cells) f y)
+      (t .3 ∙ ap (λ (o : ℕ). replicate o 0) v) (g .1 .1) (t .4) in
+      rw (le-ltb most-bytes (length s) h, q, ← g .0, g .1 .0, t .0, p, counted-totals m d (last-state n a b) n (g .1 .1))
+  check-by (walked.Declined k p) g r u t = rw (le-ltb most-bytes (length s) h, q, ← g .1, g .2 .0, g .2 .1, t .0, t .1, behind-cleared)
+  check-by (walked.Refused o k) g r u t = rw (le-ltb most-bytes (length s) h, q, g, t .0, t .1, behind-cleared)
+  check-by walked.Unread g r u t = absurd g
+
+  -- the result of a check
+  pub check-done : (w : Walked) (r : Answer) (u : Lent) → WalkedIn s (take rows-length z) (take cells-length c) (l .memory) w a b m → HandedBack w behindWalk r u → held r u ≡ checkOf s l
+  check-done w r u g t =
+      let long = not-short l q in
+      check-by w (g .by h (behind-zero (l .rows) z rows-length (long .rows) e .1) (behind-zero (l .cells) c cells-length (long .cells) f .1) (omega (arith, long .memory))) r u (t .by)

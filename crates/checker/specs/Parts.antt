@@ -1,12 +1,19 @@
 -- What the functions below `check` promise. Definitions alone.
 use mathlib.Core.Path.{_≡_}
 use mathlib.Core.List.{List}
-use mathlib.Core.Bool.{false}
+use mathlib.Core.Option.{none, some}
 use Prim.Native.Nat.{ℕ, _-_, _≤_}
 use lib.ListN.{length}
+use Rattle.theory.specs.Program.{run}
 use Rattle.refs.specs.declared.Counts.{Counts}
+use Rattle.body.specs.declared.Answer.the-variants as reading
 use Rattle.body.specs.Body.{most-bytes, rows-length, cells-length}
+use Rattle.body.specs.Body as body
 use Rattle.record.specs.declared.Record.{Record}
+use Rattle.record.specs.declared.Ruled.the-variants as ruled
+use Rattle.record.specs.Own.{log-at}
+use Rattle.resolve.specs.Resolve.{type-body}
+use Rattle.resolve.specs.Body.{first-state, last-state, TypedBy}
 use Rattle.well_formed.specs.Good.{WellFormed}
 use Rattle.tables.specs.Rows.{padded, zeros, Fills}
 use Rattle.tables.specs.Nodes.{nodeTable, nodeRoom}
@@ -16,7 +23,10 @@ use Rattle.tables.specs.Errors.{errorTable, errorRoom}
 use Rattle.tables.specs.Log.{logTable, logRoom}
 use Rattle.checker.specs.declared.Totals.{Totals}
 use Rattle.checker.specs.declared.Answer.{Answer}
-use Rattle.checker.specs.Check.{Lent, firstMade, madeTypes, tooShort, held, typed, checkOf}
+use Rattle.checker.specs.declared.Answer.the-variants as answer
+use Rattle.checker.specs.declared.Walked.{Walked}
+use Rattle.checker.specs.declared.Walked.the-variants as walked
+use Rattle.checker.specs.Check.{Lent, cleared, firstMade, madeTypes, readingOf}
 
 -- the rows in use, by the running record
 abbrev pub counted : Counts → Record → Totals
@@ -30,25 +40,41 @@ pub record Filled (m : List ℕ) (c : Record) (n : Counts) (nodes vars types err
   pub errors-filled : Fills m c (errorRoom (length errors)) (λ s. padded (length errors) (errorTable (s .errs))) errors′
   pub log-filled : Fills m c (logRoom (length m)) (λ s. padded (length log) (logTable (length log) (s .log))) log′
 
--- the tables behind are zero throughout, in the place of those before
-pub record Cleared (nodes vars types errors log memory nodes′ vars′ types′ errors′ log′ memory′ : List ℕ) : Type 0 where
-  pub nodes-zero : nodes′ ≡ zeros nodes
-  pub vars-zero : vars′ ≡ zeros vars
-  pub types-zero : types′ ≡ zeros types
-  pub errors-zero : errors′ ≡ zeros errors
-  pub log-zero : log′ ≡ zeros log
-  pub memory-zero : memory′ ≡ zeros memory
+-- the rules refuse, with the number k at the node p
+abbrev pub Declining : Counts → List ℕ → List ℕ → ℕ → ℕ → Type 0
+Declining n rows cells k p = ((run (type-body n rows cells) (first-state rows cells)) .0 ≡ none) × (last-state n rows cells .stop ≡ some (k, p))
 
--- tables of declarations of just their lengths, and the others long enough
-pub record Exact (l : Lent) : Type 0 where
-  pub rows : length (l .rows) ≡ rows-length
-  pub cells : length (l .cells) ≡ cells-length
-  pub long : tooShort l ≡ false
+-- by what typing gave: of a body of these counts and tables, in the memory m
+abbrev pub ReadAs : Counts → List ℕ → List ℕ → Walked → List ℕ → Type 0
+ReadAs n rows cells (walked.Typed k c) m = (k ≡ n) × TypedBy m (ruled.Done c) n rows cells
+ReadAs n rows cells (walked.Declined k p) m = Declining n rows cells k (p .0)
+ReadAs n rows cells (walked.Refused x k) m = ⊥
+ReadAs n rows cells walked.Unread m = ⊥
 
--- a body of the tables l that was read is typed, and leaves u
-pub record TypedRead (n : Counts) (l : Lent) (r : Answer) (u : Lent) : Type 0 where
-  pub by : WellFormed n (l .rows) (l .cells) → Exact l → held r u ≡ typed n (l .rows) (l .cells) l
+-- a body that was read is typed, in a memory that is long enough
+pub record WalkRead (n : Counts) (rows cells m : List ℕ) (w : Walked) (m′ : List ℕ) : Type 0 where
+  pub by : WellFormed n rows cells → log-at ≤ length m → ReadAs n rows cells w m′
 
--- a file s of at most 65,536 bytes is checked, and leaves u
-pub record CheckedExact (s : List ℕ) (l : Lent) (r : Answer) (u : Lent) : Type 0 where
-  pub by : length s ≤ most-bytes → Exact l → held r u ≡ checkOf s l
+-- by what reading and typing gave: of the file s, in these tables and the memory m
+abbrev pub WalkedAs : List ℕ → Walked → List ℕ → List ℕ → List ℕ → Type 0
+WalkedAs s (walked.Typed n c) rows cells m = (body.held (reading.Body n) rows cells ≡ readingOf s) × TypedBy m (ruled.Done c) n rows cells
+WalkedAs s (walked.Declined k p) rows cells m = (n : Counts) × (body.held (reading.Body n) rows cells ≡ readingOf s) × Declining n rows cells k (p .0)
+WalkedAs s (walked.Refused x k) rows cells m = readingOf s .answer ≡ reading.Refused x k
+WalkedAs s walked.Unread rows cells m = ⊥
+
+-- a file of at most 65,536 bytes is read and typed, in tables of declarations of just their lengths and a memory that is long enough
+pub record WalkedIn (s rows cells m : List ℕ) (w : Walked) (rows′ cells′ m′ : List ℕ) : Type 0 where
+  pub by : length s ≤ most-bytes → length rows ≡ rows-length → length cells ≡ cells-length → log-at ≤ length m → WalkedAs s w rows′ cells′ m′
+
+-- by what reading and typing gave: the answer r and the tables u, from the tables l
+abbrev pub HandedAs : Walked → Lent → Answer → Lent → Type 0
+HandedAs (walked.Typed n c) l r u =
+    (r ≡ answer.Checked (counted n c)) × (u .rows ≡ l .rows) × (u .cells ≡ l .cells) × (u .memory ≡ zeros (l .memory))
+    × Filled (l .memory) c n (l .nodes) (l .vars) (l .types) (l .errors) (l .log) (u .nodes) (u .vars) (u .types) (u .errors) (u .log)
+HandedAs (walked.Declined k p) l r u = (r ≡ answer.Declined k p) × (u ≡ cleared l)
+HandedAs (walked.Refused x k) l r u = (r ≡ answer.Refused x k) × (u ≡ cleared l)
+HandedAs walked.Unread l r u = Unit {0}
+
+-- the tables are handed back
+pub record HandedBack (w : Walked) (l : Lent) (r : Answer) (u : Lent) : Type 0 where
+  pub by : HandedAs w l r u

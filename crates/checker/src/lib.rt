@@ -2,10 +2,9 @@
 // made types, errors and equations, used rows first and zeros behind; on a refusal every table is zero throughout.
 ghost use mathlib.Core.Path.{_≡_};
 ghost use Prim.Native.Nat.{_+_, _-_, _≤_};
-ghost use Rattle.tables.specs.Rows.{zeros};
 ghost use mathlib.Core.List.{[]};
-ghost use Rattle.checker.specs.Check.{lent, held, tooShort, checkOf};
-ghost use Rattle.checker.specs.Parts.{counted, Filled, Cleared, TypedRead, CheckedExact};
+ghost use Rattle.checker.specs.Check.{lent, cleared, held, tooShort, checkOf};
+ghost use Rattle.checker.specs.Parts.{counted, Filled, WalkRead, WalkedIn, HandedBack};
 use body::Answer as Reading;
 use forms::Fault;
 use record::Record;
@@ -41,6 +40,14 @@ pub enum Answer {
     ShortTable,
     Refused(Fault, usize),
     Declined(u16, NodeId),
+}
+
+// What reading and typing a file gives.
+enum Walked {
+    Typed(Counts, Record),
+    Declined(u16, NodeId),
+    Refused(Fault, usize),
+    Unread,
 }
 
 // ── lengths ──
@@ -139,8 +146,10 @@ fn fill(
     tables::fill_log(m, c, log);
 }
 
-// Every table that is handed back, the log and the memory zero throughout.
+// Every table zero throughout.
 fn clear(
+    rows: &mut [u16],
+    cells: &mut [u16],
     nodes: &mut [u16],
     vars: &mut [u16],
     types: &mut [u16],
@@ -148,8 +157,10 @@ fn clear(
     log: &mut [u16],
     memory: &mut [u16],
 )
-    ensures { λ _. ⌜ Cleared (now (nodes .entry)) (now (vars .entry)) (now (types .entry)) (now (errors .entry)) (now (log .entry)) (now (memory .entry)) (now (nodes .exit)) (now (vars .exit)) (now (types .exit)) (now (errors .exit)) (now (log .exit)) (now (memory .exit)) ⌝ }
+    ensures { λ _. ⌜ (lent (now (rows .exit)) (now (cells .exit)) (now (nodes .exit)) (now (vars .exit)) (now (types .exit)) (now (errors .exit)) (now (log .exit)) (now (memory .exit))) ≡ cleared (lent (now (rows .entry)) (now (cells .entry)) (now (nodes .entry)) (now (vars .entry)) (now (types .entry)) (now (errors .entry)) (now (log .entry)) (now (memory .entry))) ⌝ }
 {
+    tables::clear(rows);
+    tables::clear(cells);
     tables::clear(nodes);
     tables::clear(vars);
     tables::clear(types);
@@ -158,13 +169,11 @@ fn clear(
     tables::clear(memory);
 }
 
-// ── a file ──
-
-// Types a body that was read, and fills the tables.
-fn type_read(
+// The tables and the answer, by what reading and typing gave.
+fn hand_back(
+    w: Walked,
     rows: &mut [u16],
     cells: &mut [u16],
-    n: Counts,
     nodes: &mut [u16],
     vars: &mut [u16],
     types: &mut [u16],
@@ -172,46 +181,48 @@ fn type_read(
     log: &mut [u16],
     memory: &mut [u16],
 ) -> Answer
-    ensures { λ r. ⌜ TypedRead n (lent (now (rows .entry)) (now (cells .entry)) (now (nodes .entry)) (now (vars .entry)) (now (types .entry)) (now (errors .entry)) (now (log .entry)) (now (memory .entry))) r (lent (now (rows .exit)) (now (cells .exit)) (now (nodes .exit)) (now (vars .exit)) (now (types .exit)) (now (errors .exit)) (now (log .exit)) (now (memory .exit))) ⌝ }
+    ensures { λ r. ⌜ HandedBack w (lent (now (rows .entry)) (now (cells .entry)) (now (nodes .entry)) (now (vars .entry)) (now (types .entry)) (now (errors .entry)) (now (log .entry)) (now (memory .entry))) r (lent (now (rows .exit)) (now (cells .exit)) (now (nodes .exit)) (now (vars .exit)) (now (types .exit)) (now (errors .exit)) (now (log .exit)) (now (memory .exit))) ⌝ }
 {
-    match resolve::type_body(rows, cells, memory, n) {
-        Ruled::Done(c) => {
+    match w {
+        Walked::Typed(n, c) => {
             fill(memory, c, n, nodes, vars, types, errors, log);
             tables::clear(memory);
             let t = count(n, c);
             Answer::Checked(t)
         }
-        Ruled::Refused(c, k, p) => {
-            tables::clear(rows);
-            tables::clear(cells);
-            clear(nodes, vars, types, errors, log, memory);
+        Walked::Declined(k, p) => {
+            clear(rows, cells, nodes, vars, types, errors, log, memory);
             Answer::Declined(k, p)
         }
+        Walked::Refused(f, l) => {
+            clear(rows, cells, nodes, vars, types, errors, log, memory);
+            Answer::Refused(f, l)
+        }
+        Walked::Unread => Answer::ShortTable,
     }
 }
 
-// Checks a file, in tables of declarations that have just their lengths.
-fn check_exact(
-    s: &[u8],
-    rows: &mut [u16],
-    cells: &mut [u16],
-    nodes: &mut [u16],
-    vars: &mut [u16],
-    types: &mut [u16],
-    errors: &mut [u16],
-    log: &mut [u16],
-    memory: &mut [u16],
-) -> Answer
-    ensures { λ r. ⌜ CheckedExact (now (s .entry)) (lent (now (rows .entry)) (now (cells .entry)) (now (nodes .entry)) (now (vars .entry)) (now (types .entry)) (now (errors .entry)) (now (log .entry)) (now (memory .entry))) r (lent (now (rows .exit)) (now (cells .exit)) (now (nodes .exit)) (now (vars .exit)) (now (types .exit)) (now (errors .exit)) (now (log .exit)) (now (memory .exit))) ⌝ }
+// ── a file ──
+
+// Types a body that was read, in the memory.
+fn walk_read(rows: &[u16], cells: &[u16], n: Counts, memory: &mut [u16]) -> Walked
+    ensures { λ w. ⌜ WalkRead n (now (rows .entry)) (now (cells .entry)) (now (memory .entry)) w (now (memory .exit)) ⌝ }
+{
+    match resolve::type_body(rows, cells, memory, n) {
+        Ruled::Done(c) => Walked::Typed(n, c),
+        Ruled::Refused(c, k, p) => Walked::Declined(k, p),
+    }
+}
+
+// Reads a file, in tables of declarations that have just their lengths, and types its body in the memory.
+fn read_and_type(s: &[u8], rows: &mut [u16], cells: &mut [u16], memory: &mut [u16]) -> Walked
+    ensures { λ w. ⌜ WalkedIn (now (s .entry)) (now (rows .entry)) (now (cells .entry)) (now (memory .entry)) w (now (rows .exit)) (now (cells .exit)) (now (memory .exit)) ⌝ }
 {
     match body::read_body(s, rows, cells) {
-        Reading::Body(n) => type_read(rows, cells, n, nodes, vars, types, errors, log, memory),
-        Reading::TooLong => Answer::TooLong,
-        Reading::ShortTable => Answer::ShortTable,
-        Reading::Refused(f, l) => {
-            clear(nodes, vars, types, errors, log, memory);
-            Answer::Refused(f, l)
-        }
+        Reading::Body(n) => walk_read(rows, cells, n, memory),
+        Reading::TooLong => Walked::Unread,
+        Reading::ShortTable => Walked::Unread,
+        Reading::Refused(f, l) => Walked::Refused(f, l),
     }
 }
 
@@ -239,15 +250,6 @@ pub fn check(
     let b = body::CELLS;
     tables::zero_from(rows, a);
     tables::zero_from(cells, b);
-    check_exact(
-        s,
-        &mut rows[..a],
-        &mut cells[..b],
-        nodes,
-        vars,
-        types,
-        errors,
-        log,
-        memory,
-    )
+    let w = read_and_type(s, &mut rows[..a], &mut cells[..b], memory);
+    hand_back(w, rows, cells, nodes, vars, types, errors, log, memory)
 }

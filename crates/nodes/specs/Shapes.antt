@@ -7,7 +7,7 @@ use Prim.Native.Nat.{ℕ, _<_}
 use lib.Dec.{eqb}
 use Rattle.theory.specs.Rules.{inst, Shape, base, var, arr, ref, fn, fun, lam, err, div, row, head, asVar, array-head, infer-head}
 use Rattle.type_table.specs.Memory.{pick, headAt, numberAt, outputAt, firstAt, countAt, inputsFrom, shapeOf, rowsOf}
-use Rattle.unify.specs.Bridge.{head-low, shape-cases, row-by, head-row, var-row}
+use Rattle.type_table.specs.Heads.{head-low, shape-cases, row-by, head-row, var-row}
 use Rattle.nodes.specs.Nodes.{shapeInputs, asArr, isFun}
 
 -- ── a shape by its head ──

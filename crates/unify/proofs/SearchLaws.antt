@@ -30,7 +30,8 @@ use Rattle.unify.specs.declared.Lead.{Lead}
 use Rattle.unify.specs.declared.Lead.the-variants.{At, End, Parts, To}
 use Rattle.unify.specs.Search.{Queue, queue, pushF, pushAll, parts, bindsIn, nextIn, leadsIn, Visited, ReachedK, Reached, LedVar, Led, Stands, seekIn, Sought}
 use Rattle.type_table.specs.Tables.{length-rows}
-use Rattle.unify.specs.Bridge.{bound-open, bound-some, var-row, no-var-row, kids-row}
+use Rattle.type_table.specs.Heads.{var-row}
+use Rattle.unify.specs.Bridge.{bound-open, bound-some, no-var-row, kids-row}
 use Rattle.unify.specs.Promise.{rowsIn}
 
 -- ── pushing ──

@@ -30,7 +30,8 @@ use Rattle.unify.specs.Search.{seekIn, Sought, parts}
 use Rattle.unify.specs.Step.{Rec, resume, Parted, Enterable, Settled, Chased, Heeded, Met, Varied, downTo, Stepped}
 use Rattle.type_table.specs.Tables.{mark-at}
 use Rattle.theory.specs.Basics.{and-both, eqb-true}
-use Rattle.unify.specs.Bridge.{bound-open, bound-some, head-row, var-row, no-var-row, kids-row}
+use Rattle.type_table.specs.Heads.{head-row, var-row}
+use Rattle.unify.specs.Bridge.{bound-open, bound-some, no-var-row, kids-row}
 use Rattle.unify.specs.Frames.{frame-same, frame-trans, held-on, rows-same, kinds-same, marking-frame, marking-mem, binding-frame, binding-mem}
 use Rattle.unify.proofs.Laws.{kind-in}
 use Rattle.unify.specs.Promise.{Frame, kindsIn, memIn, rowIn, rowsIn}

@@ -1,9 +1,7 @@
+use mathlib.Core.Path.{refl, _∙_}
 use mathlib.Core.Bool.{true, false}
-use mathlib.Core.Path.{sym, _∙_}
-use native.Mathlib.Omega.{arith}
-use lib.Seq.{length-take-le, length-front}
 use Rattle.body.specs.Body.{rows-length, cells-length}
-use Rattle.checker.proofs.Laws.{check-long, check-short, check-whole, short-is, long-tables}
+use Rattle.checker.proofs.Laws.{check-long, check-short, check-done, short-is, long-tables, part-fits, part-length, whole-length}
 use borrow.Author.Needs.{needs}
 use Rattle.checker.proofs.check.Statement.{statement}
 use Rattle.checker.proofs.check.Tie as tie
@@ -13,27 +11,28 @@ check-spec =
     tie.close (tie.spec
     (λ c. check-long _ _ (c .if1 .taken))
     (λ c κs. search needs)
-    (λ c. search needs)
-    (λ c. search needs)
-    (λ c. search needs)
-    (λ c. search needs)
-    (λ c. search needs)
-    (λ c. search needs)
-    (λ c. search needs)
+    (λ c. refl)
+    (λ c. refl)
+    (λ c. refl)
+    (λ c. refl)
+    (λ c. refl)
+    (λ c. refl)
+    (λ c. refl)
     (λ c. check-short _ _ ((c .before .before .before .before .before .before .before .before .before .if1 .left)) (short-is _ _ true ((c .before .too-short .ensures)) (c .if2 .taken)))
     (λ c κs. search needs)
     (λ c κs. search needs)
-    (λ c. omega (arith, (c .before .before .before .before .before .before .zero-from .kept .0), long-tables _ _ _ _ _ _ _ _ ((c .before .before .before .before .before .before .before .before .before .too-short .ensures)) ((c .before .before .before .before .before .before .before .before .if2 .left)) .rows))
-    (λ c. sym (length-take-le rows-length ((c .before .before .before .before .before .before .before .zero-from .last .0)) (omega (arith, (c .before .before .before .before .before .before .before .zero-from .kept .0), long-tables _ _ _ _ _ _ _ _ ((c .before .before .before .before .before .before .before .before .before .before .too-short .ensures)) ((c .before .before .before .before .before .before .before .before .before .if2 .left)) .rows))))
-    (λ c. omega (arith, (c .before .before .before .zero-from2 .kept .0), long-tables _ _ _ _ _ _ _ _ ((c .before .before .before .before .before .before .before .before .before .before .too-short .ensures)) ((c .before .before .before .before .before .before .before .before .before .if2 .left)) .cells))
-    (λ c. sym (length-take-le cells-length ((c .before .before .before .before .zero-from2 .last .0)) (omega (arith, (c .before .before .before .before .zero-from2 .kept .0), long-tables _ _ _ _ _ _ _ _ ((c .before .before .before .before .before .before .before .before .before .before .before .too-short .ensures)) ((c .before .before .before .before .before .before .before .before .before .before .if2 .left)) .cells))))
+    (λ c. part-fits ((c .before .before .before .before .before .before .before .before .before .before .before .before .before .before .before .before .before .before .before .before .before .before .before .before .before .before .before .args .rows .now)) ((c .before .before .before .before .before .before .zero-from .last .0)) rows-length (long-tables _ _ _ _ _ _ _ _ ((c .before .before .before .before .before .before .before .before .before .too-short .ensures)) ((c .before .before .before .before .before .before .before .before .if2 .left)) .rows) ((c .before .before .before .before .before .before .zero-from .kept .0)))
+    (λ c. part-length ((c .before .before .before .before .before .before .before .before .before .before .before .before .before .before .before .before .before .before .before .before .before .before .before .before .before .before .before .before .args .rows .now)) ((c .before .before .before .before .before .before .before .zero-from .last .0)) rows-length (long-tables _ _ _ _ _ _ _ _ ((c .before .before .before .before .before .before .before .before .before .before .too-short .ensures)) ((c .before .before .before .before .before .before .before .before .before .if2 .left)) .rows) ((c .before .before .before .before .before .before .before .zero-from .kept .0)))
+    (λ c. part-fits ((c .before .before .before .before .before .before .before .before .before .before .before .before .before .before .before .before .before .before .before .before .before .before .before .before .before .before .before .before .args .cells .now)) ((c .before .before .before .zero-from2 .last .0)) cells-length (long-tables _ _ _ _ _ _ _ _ ((c .before .before .before .before .before .before .before .before .before .before .too-short .ensures)) ((c .before .before .before .before .before .before .before .before .before .if2 .left)) .cells) ((c .before .before .before .zero-from2 .kept .0)))
+    (λ c. part-length ((c .before .before .before .before .before .before .before .before .before .before .before .before .before .before .before .before .before .before .before .before .before .before .before .before .before .before .before .before .before .args .cells .now)) ((c .before .before .before .before .zero-from2 .last .0)) cells-length (long-tables _ _ _ _ _ _ _ _ ((c .before .before .before .before .before .before .before .before .before .before .before .too-short .ensures)) ((c .before .before .before .before .before .before .before .before .before .before .if2 .left)) .cells) ((c .before .before .before .before .zero-from2 .kept .0)))
     (λ c κs. search needs)
-    (λ c. length-front ((c .before .before .before .before .before .before .before .before .before .before .before .before .before .before .before .before .before .before .before .before .before .before .before .before .before .before .before .before .before .before .before .zero-from .last .0)) ((c .before .before .before .before .before .before .before .before .before .before .before .before .before .before .before .before .check-exact .last .1 .0)) rows-length ((c .before .before .before .before .before .before .before .before .before .before .before .before .before .before .before .before .check-exact .kept .1 .0)) ∙ (c .before .before .before .before .before .before .before .before .before .before .before .before .before .before .before .before .before .before .before .before .before .before .before .before .before .before .before .before .before .before .before .zero-from .kept .0))
-    (λ c. length-front ((c .before .before .before .before .before .before .before .before .before .before .before .before .before .before .before .before .before .before .before .before .before .before .before .before .before .before .before .zero-from2 .last .0)) ((c .before .before .before .before .before .before .before .before .before .before .before .before .before .before .before .before .check-exact .last .1 .1 .0)) cells-length ((c .before .before .before .before .before .before .before .before .before .before .before .before .before .before .before .before .check-exact .kept .1 .1 .0)) ∙ (c .before .before .before .before .before .before .before .before .before .before .before .before .before .before .before .before .before .before .before .before .before .before .before .before .before .before .before .zero-from2 .kept .0))
-    (λ c. (c .before .before .before .before .before .before .before .before .before .before .before .before .before .before .before .before .check-exact .kept .1 .1 .1 .0))
-    (λ c. (c .before .before .before .before .before .before .before .before .before .before .before .before .before .before .before .before .check-exact .kept .1 .1 .1 .1 .0))
-    (λ c. (c .before .before .before .before .before .before .before .before .before .before .before .before .before .before .before .before .check-exact .kept .1 .1 .1 .1 .1 .0))
-    (λ c. (c .before .before .before .before .before .before .before .before .before .before .before .before .before .before .before .before .check-exact .kept .1 .1 .1 .1 .1 .1 .0))
-    (λ c. (c .before .before .before .before .before .before .before .before .before .before .before .before .before .before .before .before .check-exact .kept .1 .1 .1 .1 .1 .1 .1 .0))
-    (λ c. (c .before .before .before .before .before .before .before .before .before .before .before .before .before .before .before .before .check-exact .kept .1 .1 .1 .1 .1 .1 .1 .1 .0))
-    (λ c. check-whole _ _ ((c .before .before .before .before .before .before .before .before .before .before .before .before .before .before .before .before .before .before .before .before .before .before .before .before .before .before .before .before .before .before .before .before .before .before .before .before .before .before .before .before .before .before .if1 .left)) (short-is _ _ false ((c .before .before .before .before .before .before .before .before .before .before .before .before .before .before .before .before .before .before .before .before .before .before .before .before .before .before .before .before .before .before .before .before .before .before .too-short .ensures)) ((c .before .before .before .before .before .before .before .before .before .before .before .before .before .before .before .before .before .before .before .before .before .before .before .before .before .before .before .before .before .before .before .before .before .if2 .left))) _ _ ((c .before .before .before .before .before .before .before .before .before .before .before .before .before .before .before .before .before .before .before .before .before .before .before .before .before .before .before .before .before .before .before .zero-from .ensures)) ((c .before .before .before .before .before .before .before .before .before .before .before .before .before .before .before .before .before .before .before .before .before .before .before .before .before .before .before .zero-from2 .ensures)) _ _ _ _ _ _ _ _ _ ((c .before .before .before .before .before .before .before .before .before .before .before .before .before .before .before .before .check-exact .kept .1 .0)) ((c .before .before .before .before .before .before .before .before .before .before .before .before .before .before .before .before .check-exact .kept .1 .1 .0)) ((c .before .before .before .before .before .before .before .before .before .before .before .before .before .before .before .before .check-exact .ensures))))
+    (λ c κs. search needs)
+    (λ c. (c .before .before .before .before .before .before .before .before .before .before .before .before .before .before .before .before .hand-back .kept .1 .0) ∙ whole-length ((c .before .before .before .before .before .before .before .before .before .before .before .before .before .before .before .before .before .before .before .before .before .before .before .before .before .before .before .before .before .before .before .before .before .before .before .before .before .before .before .before .before .before .before .before .before .before .before .before .before .before .before .before .before .before .before .before .before .before .before .before .before .before .args .rows .now)) ((c .before .before .before .before .before .before .before .before .before .before .before .before .before .before .before .before .before .before .before .before .before .before .before .before .before .before .before .before .before .before .before .before .before .before .before .before .before .before .before .before .before .zero-from .last .0)) ((c .before .before .before .before .before .before .before .before .before .before .before .before .before .before .before .before .before .before .before .before .before .before .before .before .before .before .before .before .before .before .before .read-and-type .last .1 .0)) rows-length ((c .before .before .before .before .before .before .before .before .before .before .before .before .before .before .before .before .before .before .before .before .before .before .before .before .before .before .before .before .before .before .before .before .before .before .before .before .before .before .before .before .before .zero-from .kept .0)) ((c .before .before .before .before .before .before .before .before .before .before .before .before .before .before .before .before .before .before .before .before .before .before .before .before .before .before .before .before .before .before .before .read-and-type .kept .1 .0)))
+    (λ c. (c .before .before .before .before .before .before .before .before .before .before .before .before .before .before .before .before .hand-back .kept .1 .1 .0) ∙ whole-length ((c .before .before .before .before .before .before .before .before .before .before .before .before .before .before .before .before .before .before .before .before .before .before .before .before .before .before .before .before .before .before .before .before .before .before .before .before .before .before .before .before .before .before .before .before .before .before .before .before .before .before .before .before .before .before .before .before .before .before .before .before .before .before .args .cells .now)) ((c .before .before .before .before .before .before .before .before .before .before .before .before .before .before .before .before .before .before .before .before .before .before .before .before .before .before .before .before .before .before .before .before .before .before .before .before .before .zero-from2 .last .0)) ((c .before .before .before .before .before .before .before .before .before .before .before .before .before .before .before .before .before .before .before .before .before .before .before .before .before .before .before .before .before .before .before .read-and-type .last .1 .1 .0)) cells-length ((c .before .before .before .before .before .before .before .before .before .before .before .before .before .before .before .before .before .before .before .before .before .before .before .before .before .before .before .before .before .before .before .before .before .before .before .before .before .zero-from2 .kept .0)) ((c .before .before .before .before .before .before .before .before .before .before .before .before .before .before .before .before .before .before .before .before .before .before .before .before .before .before .before .before .before .before .before .read-and-type .kept .1 .1 .0)))
+    (λ c. (c .before .before .before .before .before .before .before .before .before .before .before .before .before .before .before .before .hand-back .kept .1 .1 .1 .0))
+    (λ c. (c .before .before .before .before .before .before .before .before .before .before .before .before .before .before .before .before .hand-back .kept .1 .1 .1 .1 .0))
+    (λ c. (c .before .before .before .before .before .before .before .before .before .before .before .before .before .before .before .before .hand-back .kept .1 .1 .1 .1 .1 .0))
+    (λ c. (c .before .before .before .before .before .before .before .before .before .before .before .before .before .before .before .before .hand-back .kept .1 .1 .1 .1 .1 .1 .0))
+    (λ c. (c .before .before .before .before .before .before .before .before .before .before .before .before .before .before .before .before .hand-back .kept .1 .1 .1 .1 .1 .1 .1 .0))
+    (λ c. (c .before .before .before .before .before .before .before .before .before .before .before .before .before .before .before .before .hand-back .kept .1 .1 .1 .1 .1 .1 .1 .1 .0) ∙ (c .before .before .before .before .before .before .before .before .before .before .before .before .before .before .before .before .before .before .before .before .before .before .before .before .before .before .before .before .before .before .before .read-and-type .kept .1 .1 .1 .0))
+    (λ c. check-done _ _ ((c .before .before .before .before .before .before .before .before .before .before .before .before .before .before .before .before .before .before .before .before .before .before .before .before .before .before .before .before .before .before .before .before .before .before .before .before .before .before .before .before .before .before .before .before .before .before .before .before .before .before .before .before .if1 .left)) (short-is _ _ false ((c .before .before .before .before .before .before .before .before .before .before .before .before .before .before .before .before .before .before .before .before .before .before .before .before .before .before .before .before .before .before .before .before .before .before .before .before .before .before .before .before .before .before .before .before .too-short .ensures)) ((c .before .before .before .before .before .before .before .before .before .before .before .before .before .before .before .before .before .before .before .before .before .before .before .before .before .before .before .before .before .before .before .before .before .before .before .before .before .before .before .before .before .before .before .if2 .left))) _ _ ((c .before .before .before .before .before .before .before .before .before .before .before .before .before .before .before .before .before .before .before .before .before .before .before .before .before .before .before .before .before .before .before .before .before .before .before .before .before .before .before .before .before .zero-from .ensures)) ((c .before .before .before .before .before .before .before .before .before .before .before .before .before .before .before .before .before .before .before .before .before .before .before .before .before .before .before .before .before .before .before .before .before .before .before .before .before .zero-from2 .ensures)) ((c .before .before .before .before .before .before .before .before .before .before .before .before .before .before .before .before .before .before .before .before .before .before .before .before .before .before .before .before .before .before .before .before .before .before .before .before .before .before .before .before .before .zero-from .kept .0)) ((c .before .before .before .before .before .before .before .before .before .before .before .before .before .before .before .before .before .before .before .before .before .before .before .before .before .before .before .before .before .before .before .before .before .before .before .before .before .zero-from2 .kept .0)) _ _ _ ((c .before .before .before .before .before .before .before .before .before .before .before .before .before .before .before .before .before .before .before .before .before .before .before .before .before .before .before .before .before .before .before .read-and-type .kept .1 .0)) ((c .before .before .before .before .before .before .before .before .before .before .before .before .before .before .before .before .before .before .before .before .before .before .before .before .before .before .before .before .before .before .before .read-and-type .kept .1 .1 .0)) ((c .before .before .before .before .before .before .before .before .before .before .before .before .before .before .before .before .before .before .before .before .before .before .before .before .before .before .before .before .before .before .before .read-and-type .kept .1 .1 .1 .0)) _ _ _ ((c .before .before .before .before .before .before .before .before .before .before .before .before .before .before .before .before .before .before .before .before .before .before .before .before .before .before .before .before .before .before .before .read-and-type .ensures)) ((c .before .before .before .before .before .before .before .before .before .before .before .before .before .before .before .before .hand-back .ensures))))

@@ -1,0 +1,25 @@
+use Rattle.checker.proofs.Laws.{all-cleared}
+use borrow.Author.Needs.{needs}
+use Rattle.checker.proofs.clear.Statement.{statement}
+use Rattle.checker.proofs.clear.Tie as tie
+
+pub clear-spec : {M : Type 1} → statement M
+clear-spec =
+    tie.close (tie.spec
+    (λ c κs. search needs)
+    (λ c κs. search needs)
+    (λ c κs. search needs)
+    (λ c κs. search needs)
+    (λ c κs. search needs)
+    (λ c κs. search needs)
+    (λ c κs. search needs)
+    (λ c κs. search needs)
+    (λ c. search needs)
+    (λ c. search needs)
+    (λ c. search needs)
+    (λ c. search needs)
+    (λ c. search needs)
+    (λ c. search needs)
+    (λ c. search needs)
+    (λ c. search needs)
+    (λ c. all-cleared _ _ ((c .before .before .before .before .before .before .before .before .before .before .before .before .before .before .before .before .before .before .before .before .before .before .before .before .before .before .before .before .before .before .clear .ensures)) ((c .before .before .before .before .before .before .before .before .before .before .before .before .before .before .before .before .before .before .before .before .before .before .before .before .before .before .clear2 .ensures)) ((c .before .before .before .before .before .before .before .before .before .before .before .before .before .before .before .before .before .before .before .before .before .before .clear3 .ensures)) ((c .before .before .before .before .before .before .before .before .before .before .before .before .before .before .before .before .before .before .clear4 .ensures)) ((c .before .before .before .before .before .before .before .before .before .before .before .before .before .before .clear5 .ensures)) ((c .before .before .before .before .before .before .before .before .before .before .clear6 .ensures)) ((c .before .before .before .before .before .before .clear7 .ensures)) ((c .before .before .clear8 .ensures))))
