@@ -3,10 +3,10 @@
 // line of it is kept. Before each body every table is filled with the number 7.
 ghost use Prim.Native.Nat.{_+_, _≤_};
 ghost use lib.ListN.{length};
+use answers::Answer;
+use answers::Totals;
 use body::Answer as Reading;
 use body_text::Room;
-use checker::Answer;
-use checker::Totals;
 use forms::Fault;
 use libc::STDIN_FILENO;
 use refs::Counts;
@@ -384,12 +384,12 @@ fn lent_by(l: u8) -> Lengths
     Lengths {
         rows: lent(l, b'R', body::ROWS),
         cells: lent(l, b'C', body::CELLS),
-        nodes: lent(l, b'N', checker::NODES),
-        vars: lent(l, b'V', checker::VARS),
-        types: lent(l, b'T', checker::TYPES),
-        errors: lent(l, b'E', checker::ERRORS),
+        nodes: lent(l, b'N', answers::NODES),
+        vars: lent(l, b'V', answers::VARS),
+        types: lent(l, b'T', answers::TYPES),
+        errors: lent(l, b'E', answers::ERRORS),
         log: log_lent(l),
-        memory: lent(l, b'M', checker::MEMORY),
+        memory: lent(l, b'M', answers::MEMORY),
     }
 }
 

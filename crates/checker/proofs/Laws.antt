@@ -2,13 +2,12 @@
 use mathlib.Core.Path.{_≡_, refl, sym, ap, subst, _∙_}
 use mathlib.Core.Logic.{⊎-elim}
 use mathlib.Core.List.{List, [], _∷_, _++_, append-nil}
-use mathlib.Core.Bool.{Bool, true, false, _||_, false≢true}
+use mathlib.Core.Bool.{true, false}
 use Prim.Native.Nat.{ℕ, _+_, _-_, _≤_, _<_}
 use native.Mathlib.Omega.{arith}
 use lib.ListN.{length, take, drop, length-append, length-replicate, replicate}
 use lib.Seq.{length-front, sets, sets-eq, drop-length, drop-at, take-at, length-take-le}
-use lib.Dec.{ltb}
-use borrow.Author.Tests.{ltb-false, lt-ltb, le-ltb}
+use borrow.Author.Tests.{lt-ltb, le-ltb}
 use Rattle.theory.specs.Rules.{Shape, base, var, arr, ref, fn, fun, lam, err, div}
 use Rattle.type_table.specs.declared.NodeId.{NodeId}
 use Rattle.type_table.specs.Sound.{stateOf}
@@ -32,74 +31,20 @@ use Rattle.resolve.specs.Body.{last-state, BodyTyped, TypedBy}
 use Rattle.well_formed.specs.Good.{WellFormed}
 use Rattle.well_formed.specs.Claims.{when-1, when-2, well-formed-on-0}
 use Rattle.bounds.specs.Claims.{typed-in-memory, never-full, equations-bound, made-count, made-inputs}
-use Rattle.tables.specs.Rows.{padded, zeros, cellsOf, Fills}
-use Rattle.tables.specs.Types.{shapeInputs, inputsOf, typeTable, typeRoom}
-use Rattle.checker.specs.declared.Totals.{Totals}
-use Rattle.checker.specs.declared.Answer.{Answer}
-use Rattle.checker.specs.declared.Answer.the-variants as answer
-use Rattle.checker.specs.declared.Walked.{Walked}
-use Rattle.checker.specs.declared.Walked.the-variants as walked
-use Rattle.checker.specs.Check.{Lent, lent, cleared, nodes-length, vars-length, types-length, errors-length, memory-length, tooShort, held, firstMade, madeTypes, totals, filled, typed, readingOf, checkOf}
+use Rattle.tables.specs.Rows.{padded, zeros, cellsOf}
+use Rattle.tables.specs.Types.{shapeInputs, inputsOf}
+use Rattle.answers.specs.declared.Answer.{Answer}
+use Rattle.answers.specs.declared.Answer.the-variants as answer
+use Rattle.answers.specs.declared.Walked.{Walked}
+use Rattle.answers.specs.declared.Walked.the-variants as walked
+use Rattle.answers.specs.Lent.{Lent, lent, cleared, tooShort, held, madeTypes, totals, filled}
+use Rattle.checker.specs.Check.{typed, readingOf, checkOf}
 use Rattle.checker.specs.Answers.{read-well-formed}
-use Rattle.checker.specs.Parts.{counted, Filled, ReadAs, WalkRead, WalkedAs, WalkedIn, HandedAs, HandedBack}
-
--- ── lengths ──
-
--- tables that are long enough
-pub record Long (l : Lent) : Type 0 where
-  pub rows : rows-length ≤ length (l .rows)
-  pub cells : cells-length ≤ length (l .cells)
-  pub memory : memory-length ≤ length (l .memory)
-  pub nodes : nodes-length ≤ length (l .nodes)
-  pub vars : vars-length ≤ length (l .vars)
-  pub types : types-length ≤ length (l .types)
-  pub errors : errors-length ≤ length (l .errors)
-
--- both parts of a test are false
-or-false : (a b : Bool) → (a || b) ≡ false → (a ≡ false) × (b ≡ false)
-or-false true b e = absurd (false≢true (sym e))
-or-false false b e = (refl, e)
-
--- a test of a length that is false
-long : (n : ℕ) (t : List ℕ) → ltb (length t) n ≡ false → n ≤ length t
-long n t = ltb-false (length t) n
-
--- no table is below its length
-pub not-short : (l : Lent) → tooShort l ≡ false → Long l
-unfolding tooShort
-not-short l e =
-    let a = or-false (ltb (length (l .rows)) rows-length) _ e in
-    let b = or-false (ltb (length (l .cells)) cells-length) _ (a .1) in
-    let c = or-false (ltb (length (l .memory)) memory-length) _ (b .1) in
-    let d = or-false (ltb (length (l .nodes)) nodes-length) _ (c .1) in
-    let f = or-false (ltb (length (l .vars)) vars-length) _ (d .1) in
-    let g = or-false (ltb (length (l .types)) types-length) _ (f .1) in
-    record {
-      rows = long rows-length (l .rows) (a .0);
-      cells = long cells-length (l .cells) (b .0);
-      memory = long memory-length (l .memory) (c .0);
-      nodes = long nodes-length (l .nodes) (d .0);
-      vars = long vars-length (l .vars) (f .0);
-      types = long types-length (l .types) (g .0);
-      errors = long errors-length (l .errors) (g .1);
-    }
-
--- the test of all lengths, whatever the log
-pub short-is : (l : Lent) (b c : Bool) → b ≡ tooShort (lent (l .rows) (l .cells) (l .nodes) (l .vars) (l .types) (l .errors) [] (l .memory)) → b ≡ c → tooShort l ≡ c
-unfolding tooShort
-short-is l b c e f = sym e ∙ f
-
--- no table is below its length, by that test
-pub long-tables : (rows cells nodes vars types errors memory : List ℕ) (b : Bool) → b ≡ tooShort (lent rows cells nodes vars types errors [] memory) → b ≡ false
-    → Long (lent rows cells nodes vars types errors [] memory)
-long-tables rows cells nodes vars types errors memory b e f = not-short (lent rows cells nodes vars types errors [] memory) (sym e ∙ f)
+use Rattle.answers.specs.Lengths.{Long, not-short}
+use Rattle.answers.specs.Parts.{counted, Filled, HandedAs, HandedBack}
+use Rattle.checker.specs.Parts.{Declining, ReadAs, WalkRead, WalkedAs, WalkedIn, FileAs, CellsWalked, FileWalked}
 
 -- ── a body that was typed ──
-
--- the table of made types, from the first of them on
-pub made-filled : (m : List ℕ) (c : Record) (n : Counts) (f k : ℕ) (u : List ℕ) → (n .types ≤ 512 → f ≡ firstMade n) → Fills m c (typeRoom f k) (λ s. typeTable k (drop f (s .rows))) u
-    → n .types ≤ 512 → Fills m c (typeRoom (firstMade n) k) (λ s. typeTable k (madeTypes n s)) u
-made-filled m c n f k u e g h = rw (e h) at g
 
 -- the record's counts are those of the state
 pub counted-totals : (m : List ℕ) (c : Record) (s : State) (n : Counts) → Encodes m c s → counted n c ≡ totals n s
@@ -216,32 +161,6 @@ module _ (s rows cells m : List ℕ) (a : Reading) (rows′ cells′ : List ℕ)
     by = λ h p q large. ⊎-elim (λ v. omega arith) (λ v. omega arith) (when-2 s rows cells .0 (ap (λ (z : Read). z .answer) (sym e) ∙ g) .1);
   }
 
--- ── handing back ──
-
--- a body that ends without a refusal
-pub handed-typed : (w : Walked) (n : Counts) (c : Record) (l : Lent) (t : Totals) (nodes vars types errors log memory : List ℕ) → w ≡ walked.Typed n c → t ≡ counted n c → memory ≡ zeros (l .memory)
-    → Filled (l .memory) c n (l .nodes) (l .vars) (l .types) (l .errors) (l .log) nodes vars types errors log
-    → HandedBack w l (answer.Checked t) (lent (l .rows) (l .cells) nodes vars types errors log memory)
-handed-typed w n c l t nodes vars types errors log memory e k z f = rw e (record { by = (ap answer.Checked k, refl, refl, z, f) })
-
--- 10 to 13
-pub handed-declined : (w : Walked) (k : ℕ) (p : NodeId) (l u : Lent) → w ≡ walked.Declined k p → u ≡ cleared l → HandedBack w l (answer.Declined k p) u
-handed-declined w k p l u e z = rw e (record { by = (refl, z) })
-
--- 3 to 6
-pub handed-refused : (w : Walked) (x : Fault) (k : ℕ) (l u : Lent) → w ≡ walked.Refused x k → u ≡ cleared l → HandedBack w l (answer.Refused x k) u
-handed-refused w x k l u e z = rw e (record { by = (refl, z) })
-
--- what cannot be
-pub handed-unread : (w : Walked) (l : Lent) (r : Answer) (u : Lent) → w ≡ walked.Unread → HandedBack w l r u
-handed-unread w l r u e = rw e (record { by = tt })
-
--- all tables zero
-pub all-cleared : (l u : Lent) → u .rows ≡ zeros (l .rows) → u .cells ≡ zeros (l .cells) → u .nodes ≡ zeros (l .nodes) → u .vars ≡ zeros (l .vars) → u .types ≡ zeros (l .types) → u .errors ≡ zeros (l .errors)
-    → u .log ≡ zeros (l .log) → u .memory ≡ zeros (l .memory) → u ≡ cleared l
-unfolding cleared
-all-cleared l u a b c d e f g h = rw (← a, ← b, ← c, ← d, ← e, ← f, ← g, ← h)
-
 -- ── a file ──
 
 module _ (s : List ℕ) (l : Lent) where
@@ -286,32 +205,72 @@ cleared-lengths : (l u : Lent) → length (u .rows) ≡ length (l .rows) → len
 unfolding cleared
 cleared-lengths l u a b c = rw (a, b, c)
 
-module _ (s : List ℕ) (l : Lent) (h : length s ≤ most-bytes) (q : tooShort l ≡ false) (z c : List ℕ) (e : z ≡ sets (l .rows) rows-length (replicate (length (l .rows) - rows-length) 0))
-    (f : c ≡ sets (l .cells) cells-length (replicate (length (l .cells) - cells-length) 0)) (i : length z ≡ length (l .rows)) (j : length c ≡ length (l .cells)) (a b m : List ℕ)
-    (x : length a ≡ length (take rows-length z)) (y : length b ≡ length (take cells-length c)) (v : length m ≡ length (l .memory)) where
+-- what reading and typing gave in a table of fields of just its length
+cells-by : (s rows cells z a b m : List ℕ) (n : ℕ) → n ≤ length cells → z ≡ sets cells n (replicate (length cells - n) 0) → length b ≡ length (take n z)
+    → (w : Walked) → WalkedAs s w a b m → FileAs s w ((a ≡ readingOf s .rows) × (b ++ drop n z ≡ padded (length cells) (readingOf s .cells))) m
+cells-by s rows cells z a b m n q f y (walked.Typed i d) g = (
+  ap (λ (o : Read). o .answer) (sym (g .0)),
+  (ap (λ (o : Read). o .rows) (g .0), whole-padded cells z b n q f y ∙ ap (λ (o : Read). padded (length cells) (o .cells)) (g .0)),
+  subst (λ (o : Read). TypedBy m (ruled.Done d) i (o .rows) (o .cells)) (g .0) (g .1),
+)
+cells-by s rows cells z a b m n q f y (walked.Declined k i) g =
+    (g .0, ap (λ (o : Read). o .answer) (sym (g .1)), subst (λ (o : Read). Declining (g .0) (o .rows) (o .cells) k (i .0)) (g .1) (g .2))
+cells-by s rows cells z a b m n q f y (walked.Refused o k) g = g
+cells-by s rows cells z a b m n q f y walked.Unread g = absurd g
+
+-- the whole table of fields
+pub cells-walked : (s rows cells m z : List ℕ) (w : Walked) (a b m′ : List ℕ) (n : ℕ) → n ≡ cells-length → z ≡ sets cells n (replicate (length cells - n) 0) → length b ≡ length (take n z)
+    → WalkedIn s rows (take n z) m w a b m′ → CellsWalked s rows cells m w a (b ++ drop n z) m′
+cells-walked s rows cells m z w a b m′ n t f y g = record {
+  by = λ h p q large.
+      let k : n ≤ length cells = omega arith in
+      cells-by s rows cells z a b m′ n k f y w (g .by h p (behind-zero cells z n k f .1 ∙ t) large);
+}
+
+-- what it gave in a table of rows of just its length
+rows-by : (s rows z a c m : List ℕ) (k n : ℕ) → n ≤ length rows → z ≡ sets rows n (replicate (length rows - n) 0) → length a ≡ length (take n z)
+    → (w : Walked) → FileAs s w ((a ≡ readingOf s .rows) × (c ≡ padded k (readingOf s .cells))) m
+    → FileAs s w ((a ++ drop n z ≡ padded (length rows) (readingOf s .rows)) × (c ≡ padded k (readingOf s .cells))) m
+rows-by s rows z a c m k n p e x (walked.Typed i d) g = (g .0, (whole-padded rows z a n p e x ∙ ap (λ (o : List ℕ). padded (length rows) o) (g .1 .0), g .1 .1), g .2)
+rows-by s rows z a c m k n p e x (walked.Declined i o) g = g
+rows-by s rows z a c m k n p e x (walked.Refused o i) g = g
+rows-by s rows z a c m k n p e x walked.Unread g = absurd g
+
+-- the whole table of rows
+pub rows-walked : (s rows cells m z : List ℕ) (w : Walked) (a c m′ : List ℕ) (n : ℕ) → n ≡ rows-length → z ≡ sets rows n (replicate (length rows - n) 0) → length a ≡ length (take n z)
+    → CellsWalked s (take n z) cells m w a c m′ → FileWalked s rows cells m w (a ++ drop n z) c m′
+rows-walked s rows cells m z w a c m′ n t e x g = record {
+  by = λ h p q large.
+      let k : n ≤ length rows = omega arith in
+      rows-by s rows z a c m′ (length cells) n k e x w (g .by h (behind-zero rows z n k e .1 ∙ t) q large);
+}
+
+-- tables that are too short are not met
+pub few-rows : (s rows cells m : List ℕ) (n : ℕ) → n ≡ rows-length → length rows < n → FileWalked s rows cells m walked.Unread rows cells m
+few-rows s rows cells m n t b = record { by = λ h p q large. omega arith }
+
+pub few-cells : (s rows cells m : List ℕ) (n : ℕ) → n ≡ cells-length → length cells < n → CellsWalked s rows cells m walked.Unread rows cells m
+few-cells s rows cells m n t b = record { by = λ h p q large. omega arith }
+
+-- ── answers and tables ──
+
+module _ (s : List ℕ) (l : Lent) (h : length s ≤ most-bytes) (q : tooShort l ≡ false) (rows cells m : List ℕ) (x : length rows ≡ length (l .rows)) (y : length cells ≡ length (l .cells))
+    (v : length m ≡ length (l .memory)) where
   -- the tables behind reading and typing
   abbrev behindWalk : Lent
-  behindWalk = lent (a ++ drop rows-length z) (b ++ drop cells-length c) (l .nodes) (l .vars) (l .types) (l .errors) (l .log) m
-
-  -- those that are cleared
-  behind-cleared : cleared behindWalk ≡ cleared l
-  behind-cleared = cleared-lengths l behindWalk (whole-length (l .rows) z a rows-length i x) (whole-length (l .cells) c b cells-length j y) v
+  behindWalk = lent rows cells (l .nodes) (l .vars) (l .types) (l .errors) (l .log) m
 
   -- by what reading and typing gave
-  check-by : (w : Walked) → WalkedAs s w a b m → (r : Answer) (u : Lent) → HandedAs w behindWalk r u → held r u ≡ checkOf s l
+  check-by : (w : Walked) → FileAs s w ((rows ≡ padded (length (l .rows)) (readingOf s .rows)) × (cells ≡ padded (length (l .cells)) (readingOf s .cells))) m → (r : Answer) (u : Lent) → HandedAs w behindWalk r u → held r u ≡ checkOf s l
   unfolding checkOf typed
   check-by (walked.Typed n d) g r u t =
-      let long = not-short l q in
-      let k : WellFormed n a b = rw (← g .0) at (read-well-formed s n (ap (λ (o : Read). o .answer) (sym (g .0)))) in
-      let p = tables-filled n a b k l long m d u v (t .1 ∙ whole-padded (l .rows) z a rows-length (long .rows) e x) (t .2 ∙ whole-padded (l .cells) c b cells-length (long .cells) f y)
-      (t .3 ∙ ap (λ (o : ℕ). replicate o 0) v) (g .1 .1) (t .4) in
-      rw (le-ltb most-bytes (length s) h, q, ← g .0, g .1 .0, t .0, p, counted-totals m d (last-state n a b) n (g .1 .1))
-  check-by (walked.Declined k p) g r u t = rw (le-ltb most-bytes (length s) h, q, ← g .1, g .2 .0, g .2 .1, t .0, t .1, behind-cleared)
-  check-by (walked.Refused o k) g r u t = rw (le-ltb most-bytes (length s) h, q, g, t .0, t .1, behind-cleared)
+      let p = tables-filled n (readingOf s .rows) (readingOf s .cells) (read-well-formed s n (g .0)) l (not-short l q) m d u v (t .1 ∙ g .1 .0) (t .2 ∙ g .1 .1)
+      (t .3 ∙ ap (λ (o : ℕ). replicate o 0) v) (g .2 .1) (t .4) in
+      rw (le-ltb most-bytes (length s) h, q, g .0, g .2 .0, t .0, p, counted-totals m d (last-state n (readingOf s .rows) (readingOf s .cells)) n (g .2 .1))
+  check-by (walked.Declined k p) g r u t = rw (le-ltb most-bytes (length s) h, q, g .1, g .2 .0, g .2 .1, t .0, t .1, cleared-lengths l behindWalk x y v)
+  check-by (walked.Refused o k) g r u t = rw (le-ltb most-bytes (length s) h, q, g, t .0, t .1, cleared-lengths l behindWalk x y v)
   check-by walked.Unread g r u t = absurd g
 
   -- the result of a check
-  pub check-done : (w : Walked) (r : Answer) (u : Lent) → WalkedIn s (take rows-length z) (take cells-length c) (l .memory) w a b m → HandedBack w behindWalk r u → held r u ≡ checkOf s l
-  check-done w r u g t =
-      let long = not-short l q in
-      check-by w (g .by h (behind-zero (l .rows) z rows-length (long .rows) e .1) (behind-zero (l .cells) c cells-length (long .cells) f .1) (omega (arith, long .memory))) r u (t .by)
+  pub check-done : (w : Walked) (r : Answer) (u : Lent) → FileWalked s (l .rows) (l .cells) (l .memory) w rows cells m → HandedBack w behindWalk r u → held r u ≡ checkOf s l
+  check-done w r u g t = let long = not-short l q in check-by w (g .by h (long .rows) (long .cells) (omega (arith, long .memory))) r u (t .by)

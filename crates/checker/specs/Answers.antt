@@ -22,9 +22,10 @@ use Rattle.resolve.specs.Body.{first-state, last-state}
 use Rattle.well_formed.specs.Good.{WellFormed}
 use Rattle.well_formed.specs.Claims as reader
 use Rattle.bounds.specs.Claims.{refusal-number-and-place}
-use Rattle.checker.specs.declared.Totals.{Totals}
-use Rattle.checker.specs.declared.Answer.the-variants as answer
-use Rattle.checker.specs.Check.{Lent, cleared, tooShort, Held, held, totals, filled, endedBy, typed, readingOf, readBy, checkOf}
+use Rattle.answers.specs.declared.Totals.{Totals}
+use Rattle.answers.specs.declared.Answer.the-variants as answer
+use Rattle.answers.specs.Lent.{Lent, cleared, tooShort, Held, held, totals, filled}
+use Rattle.checker.specs.Check.{endedBy, typed, readingOf, readBy, checkOf}
 
 -- ── what the reader answers ──
 
@@ -219,3 +220,28 @@ module _ (s : List ℕ) (l : Lent) where
     declined = λ h q n k p r z y. absurd (false≢true (sym q ∙ t));
     checked = λ h q n r z. absurd (false≢true (sym q ∙ t));
   })
+
+-- ── what is lent decides no answer but 2 ──
+
+-- how a walk ended
+same-ended : (n : Counts) (rows cells : List ℕ) (o : Option (Unit {0})) (t : State) (l l′ : Lent) → endedBy n rows cells o t l .answer ≡ endedBy n rows cells o t l′ .answer
+same-ended n rows cells (some u) t l l′ = refl
+same-ended n rows cells none t l l′ = refl
+
+-- what the reader answers
+same-by : (a : Reading) (rows cells : List ℕ) (l l′ : Lent) → readBy a rows cells l .answer ≡ readBy a rows cells l′ .answer
+unfolding typed
+same-by (reading.Body n) rows cells l l′ = let r = run (type-body n rows cells) (first-state rows cells) in same-ended n rows cells (r .0) (r .1) l l′
+same-by reading.TooLong rows cells l l′ = refl
+same-by reading.ShortTable rows cells l l′ = refl
+same-by (reading.Refused x k) rows cells l l′ = refl
+
+-- two checks of a file
+pub same-answer : (s : List ℕ) (l l′ : Lent) → tooShort l ≡ false → tooShort l′ ≡ false → checkOf s l .answer ≡ checkOf s l′ .answer
+unfolding checkOf
+same-answer s l l′ p q = rw (p, q) (by (ltb most-bytes (length s)))
+  where
+    by : (a : Bool) → cond a (held answer.TooLong l) (readBy (readingOf s .answer) (readingOf s .rows) (readingOf s .cells) l) .answer
+        ≡ cond a (held answer.TooLong l′) (readBy (readingOf s .answer) (readingOf s .rows) (readingOf s .cells) l′) .answer
+    by true = refl
+    by false = same-by (readingOf s .answer) (readingOf s .rows) (readingOf s .cells) l l′

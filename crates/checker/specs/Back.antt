@@ -16,7 +16,7 @@ use Rattle.bounds.specs.Declared.{lineShape}
 use Rattle.bounds.specs.Claims.{all-types, made-count, variables}
 use Rattle.tables.specs.Rows.{padded}
 use Rattle.tables.specs.Back.{kinds-back, binds-back, made-back}
-use Rattle.checker.specs.Check.{Lent, firstMade, madeTypes, totals, filled}
+use Rattle.answers.specs.Lent.{Lent, firstMade, madeTypes, totals, filled}
 use Rattle.checker.specs.Handed.{typesHeld, kindsHeld, bindsHeld}
 
 -- ── zeros behind a table are read as before ──

@@ -6,7 +6,7 @@
 use mathlib.Core.Path.{_≡_, ap, sym, _∙_}
 use mathlib.Core.Logic.{_↔_}
 use mathlib.Core.List.{List, _∷_, _++_}
-use mathlib.Core.Bool.{true}
+use mathlib.Core.Bool.{true, false}
 use Prim.Native.Nat.{ℕ, _<_, _≤_}
 use lib.ListN.{length}
 use Rattle.theory.specs.Program.{Equation}
@@ -16,10 +16,11 @@ use Rattle.type_table.specs.declared.NodeId.{NodeId}
 use Rattle.forms.specs.declared.Fault.{Fault}
 use Rattle.body.specs.declared.Answer.the-variants as reading
 use Rattle.body.specs.Body.{most-bytes}
-use Rattle.checker.specs.declared.Totals.{Totals}
-use Rattle.checker.specs.declared.Answer.{Answer}
-use Rattle.checker.specs.declared.Answer.the-variants as answer
-use Rattle.checker.specs.Check.{Lent, cleared, tooShort, Held, held, totals, readingOf, checkOf}
+use Rattle.answers.specs.declared.Totals.{Totals}
+use Rattle.answers.specs.declared.Answer.{Answer}
+use Rattle.answers.specs.declared.Answer.the-variants as answer
+use Rattle.answers.specs.Lent.{Lent, cleared, tooShort, Held, held, totals}
+use Rattle.checker.specs.Check.{readingOf, checkOf}
 use Rattle.checker.specs.File.{equationsOf, typesOf, kindsOf}
 use Rattle.checker.specs.Handed.{typesHeld, kindsHeld, bindsHeld}
 use Rattle.checker.specs.Answers.{On0, On10to13}
@@ -63,6 +64,10 @@ module _ (s : List ℕ) (l : Lent) where
   -- on 0 the rules end without a refusal, the totals are the row counts of the state in which they end, and the tables are those of that state
   pub on-0 : (t : Totals) → result .answer ≡ answer.Checked t → On0 s l t (result .tables)
   on-0 = answers.on-0 s l
+
+  -- what is lent decides no answer but 2: the file alone decides answer, number, PLACE and totals
+  pub same-answer : (l′ : Lent) → tooShort l ≡ false → tooShort l′ ≡ false → result .answer ≡ checkOf s l′ .answer
+  same-answer = answers.same-answer s l
 
   -- at most 1,024 variables, 4,096 made types, 4,096 errors and 2,048 equations
   pub limits : (t : Totals) → result .answer ≡ answer.Checked t → Limited t

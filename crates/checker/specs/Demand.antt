@@ -16,9 +16,10 @@ use Rattle.well_formed.specs.Good.{WellFormed}
 use Rattle.well_formed.specs.Zeros.{ZeroBehind}
 use Rattle.well_formed.specs.Claims as reader
 use Rattle.bounds.specs.Claims as walk
-use Rattle.checker.specs.declared.Totals.{Totals}
-use Rattle.checker.specs.declared.Answer.the-variants as answer
-use Rattle.checker.specs.Check.{Lent, totals, readingOf, checkOf}
+use Rattle.answers.specs.declared.Totals.{Totals}
+use Rattle.answers.specs.declared.Answer.the-variants as answer
+use Rattle.answers.specs.Lent.{Lent, totals}
+use Rattle.checker.specs.Check.{readingOf, checkOf}
 use Rattle.checker.specs.File.{stateBy, stateOf, equationsIn, equationsOf, typesIn, typesOf, kindsIn, kindsOf}
 use Rattle.checker.specs.Handed.{typesHeld, kindsHeld, bindsHeld}
 use Rattle.checker.specs.Answers.{lastOf, tablesOf, read-well-formed, On0, on-0}

@@ -7,8 +7,8 @@ use Rattle.type_table.specs.Memory.{tab}
 use Rattle.type_table.specs.Sound.{fixed-types}
 use Rattle.bounds.specs.Declared.{lineShape}
 use Rattle.tables.specs.Read.{kindsIn, bindsIn, madeAt}
-use Rattle.checker.specs.declared.Totals.{Totals}
-use Rattle.checker.specs.Check.{Lent}
+use Rattle.answers.specs.declared.Totals.{Totals}
+use Rattle.answers.specs.Lent.{Lent}
 
 -- the fixed types, those of the `type` lines, and the made ones
 abbrev pub typesHeld : Totals → Lent → List Shape

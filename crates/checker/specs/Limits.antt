@@ -29,8 +29,8 @@ use Rattle.tables.specs.Errors.{errorTable}
 use Rattle.tables.specs.Log.{equationRow, logTable}
 use Rattle.tables.specs.Read.{madeAt}
 use Rattle.tables.specs.Back.{made-back}
-use Rattle.checker.specs.declared.Totals.{Totals}
-use Rattle.checker.specs.Check.{Lent, firstMade, madeTypes, totals, filled}
+use Rattle.answers.specs.declared.Totals.{Totals}
+use Rattle.answers.specs.Lent.{Lent, firstMade, madeTypes, totals, filled}
 use Rattle.checker.specs.Back.{cell-padded}
 
 -- ── limits ──

@@ -1,208 +1,15 @@
 // `check`: a file's bytes to the answer and the lent tables. It reads the file, types the body, and hands back declarations, nodes, variables,
 // made types, errors and equations, used rows first and zeros behind; on a refusal every table is zero throughout.
 ghost use mathlib.Core.Path.{_≡_};
-ghost use Prim.Native.Nat.{_+_, _-_, _≤_};
-ghost use mathlib.Core.List.{[]};
-ghost use Rattle.checker.specs.Check.{lent, cleared, held, tooShort, checkOf};
-ghost use Rattle.checker.specs.Parts.{counted, Filled, WalkRead, WalkedIn, HandedBack};
+ghost use Rattle.body.specs.Body.{rows-length, cells-length};
+ghost use Rattle.answers.specs.Lent.{lent, held};
+ghost use Rattle.checker.specs.Check.{checkOf};
+ghost use Rattle.checker.specs.Parts.{WalkRead, WalkedIn, CellsWalked, FileWalked};
+use answers::Answer;
+use answers::Walked;
 use body::Answer as Reading;
-use forms::Fault;
-use record::Record;
 use record::Ruled;
 use refs::Counts;
-use type_table::NodeId;
-
-// The lengths of the lent tables: 1,024 nodes and 1,024 variables of six cells, 4,096 made types of five and 1,024 inputs, 4,096 errors of nine.
-pub const NODES: usize = 6144;
-
-pub const VARS: usize = 6144;
-
-pub const TYPES: usize = 21504;
-
-pub const ERRORS: usize = 36864;
-
-// The memory of the walk, with room for the 2,048 equations that a body can raise.
-pub const MEMORY: usize = 96162;
-
-// How many rows of each table are in use.
-pub struct Totals {
-    pub declared: Counts,
-    pub types: u16,
-    pub vars: u16,
-    pub errors: u16,
-    pub equations: u16,
-}
-
-// Document 01's answers: 0; 1; 2; 3 to 6 with the line; 10 to 13 with the node whose rule ran.
-pub enum Answer {
-    Checked(Totals),
-    TooLong,
-    ShortTable,
-    Refused(Fault, usize),
-    Declined(u16, NodeId),
-}
-
-// What reading and typing a file gives.
-enum Walked {
-    Typed(Counts, Record),
-    Declined(u16, NodeId),
-    Refused(Fault, usize),
-    Unread,
-}
-
-// ── lengths ──
-
-// Some lent table is below its length.
-fn too_short(
-    rows: &[u16],
-    cells: &[u16],
-    nodes: &[u16],
-    vars: &[u16],
-    types: &[u16],
-    errors: &[u16],
-    memory: &[u16],
-) -> bool
-    ensures { λ r. ⌜ r ≡ tooShort (lent (now (rows .entry)) (now (cells .entry)) (now (nodes .entry)) (now (vars .entry)) (now (types .entry)) (now (errors .entry)) [] (now (memory .entry))) ⌝ }
-{
-    if rows.len() < body::ROWS {
-        return true;
-    }
-    if cells.len() < body::CELLS {
-        return true;
-    }
-    if memory.len() < MEMORY {
-        return true;
-    }
-    if nodes.len() < NODES {
-        return true;
-    }
-    if vars.len() < VARS {
-        return true;
-    }
-    if types.len() < TYPES {
-        return true;
-    }
-    errors.len() < ERRORS
-}
-
-// ── tables ──
-
-// The made types of t types, d of which are of the file.
-fn made(t: u16, d: u16) -> u16
-    ensures { λ r. ⌜ r ≡ t - (14 + d) ⌝ }
-{
-    if (t as u32) < 14 + d as u32 {
-        return 0;
-    }
-    t - 14 - d
-}
-
-// The first made type, behind the fixed types and d of the file.
-fn first_made(d: u16) -> u16
-    ensures { λ r. ⌜ (d ≤ 512 → r ≡ 14 + d) ⌝ }
-{
-    if d <= 512 { 14 + d } else { 0 }
-}
-
-// How many rows are in use.
-fn count(n: Counts, c: Record) -> Totals
-    ensures { λ r. ⌜ r ≡ counted n c ⌝ }
-{
-    let d = n.types;
-    let t = c.counts.types;
-    let v = c.counts.vars;
-    let e = c.errors;
-    let q = c.equations;
-    let k = made(t, d);
-    Totals {
-        declared: n,
-        types: k,
-        vars: v,
-        errors: e,
-        equations: q,
-    }
-}
-
-// The tables of a body that was typed, from the memory.
-fn fill(
-    m: &[u16],
-    c: Record,
-    n: Counts,
-    nodes: &mut [u16],
-    vars: &mut [u16],
-    types: &mut [u16],
-    errors: &mut [u16],
-    log: &mut [u16],
-)
-    ensures { λ _. ⌜ Filled (now (m .entry)) c n (now (nodes .entry)) (now (vars .entry)) (now (types .entry)) (now (errors .entry)) (now (log .entry)) (now (nodes .exit)) (now (vars .exit)) (now (types .exit)) (now (errors .exit)) (now (log .exit)) ⌝ }
-{
-    let k = n.nodes;
-    let d = n.types;
-    tables::fill_nodes(m, c, k, nodes);
-    tables::fill_vars(m, c, vars);
-    let f = first_made(d);
-    tables::fill_types(m, c, f, types);
-    tables::fill_errors(m, c, errors);
-    tables::fill_log(m, c, log);
-}
-
-// Every table zero throughout.
-fn clear(
-    rows: &mut [u16],
-    cells: &mut [u16],
-    nodes: &mut [u16],
-    vars: &mut [u16],
-    types: &mut [u16],
-    errors: &mut [u16],
-    log: &mut [u16],
-    memory: &mut [u16],
-)
-    ensures { λ _. ⌜ (lent (now (rows .exit)) (now (cells .exit)) (now (nodes .exit)) (now (vars .exit)) (now (types .exit)) (now (errors .exit)) (now (log .exit)) (now (memory .exit))) ≡ cleared (lent (now (rows .entry)) (now (cells .entry)) (now (nodes .entry)) (now (vars .entry)) (now (types .entry)) (now (errors .entry)) (now (log .entry)) (now (memory .entry))) ⌝ }
-{
-    tables::clear(rows);
-    tables::clear(cells);
-    tables::clear(nodes);
-    tables::clear(vars);
-    tables::clear(types);
-    tables::clear(errors);
-    tables::clear(log);
-    tables::clear(memory);
-}
-
-// The tables and the answer, by what reading and typing gave.
-fn hand_back(
-    w: Walked,
-    rows: &mut [u16],
-    cells: &mut [u16],
-    nodes: &mut [u16],
-    vars: &mut [u16],
-    types: &mut [u16],
-    errors: &mut [u16],
-    log: &mut [u16],
-    memory: &mut [u16],
-) -> Answer
-    ensures { λ r. ⌜ HandedBack w (lent (now (rows .entry)) (now (cells .entry)) (now (nodes .entry)) (now (vars .entry)) (now (types .entry)) (now (errors .entry)) (now (log .entry)) (now (memory .entry))) r (lent (now (rows .exit)) (now (cells .exit)) (now (nodes .exit)) (now (vars .exit)) (now (types .exit)) (now (errors .exit)) (now (log .exit)) (now (memory .exit))) ⌝ }
-{
-    match w {
-        Walked::Typed(n, c) => {
-            fill(memory, c, n, nodes, vars, types, errors, log);
-            tables::clear(memory);
-            let t = count(n, c);
-            Answer::Checked(t)
-        }
-        Walked::Declined(k, p) => {
-            clear(rows, cells, nodes, vars, types, errors, log, memory);
-            Answer::Declined(k, p)
-        }
-        Walked::Refused(f, l) => {
-            clear(rows, cells, nodes, vars, types, errors, log, memory);
-            Answer::Refused(f, l)
-        }
-        Walked::Unread => Answer::ShortTable,
-    }
-}
-
-// ── a file ──
 
 // Types a body that was read, in the memory.
 fn walk_read(rows: &[u16], cells: &[u16], n: Counts, memory: &mut [u16]) -> Walked
@@ -226,6 +33,44 @@ fn read_and_type(s: &[u8], rows: &mut [u16], cells: &mut [u16], memory: &mut [u1
     }
 }
 
+// The cells of the table of rows that a file is read into; as an answer, so that its proofs need not count to it.
+fn rows_end() -> usize
+    ensures { λ r. ⌜ r ≡ rows-length ⌝ }
+{
+    body::ROWS
+}
+
+// Those of the table of fields.
+fn cells_end() -> usize
+    ensures { λ r. ⌜ r ≡ cells-length ⌝ }
+{
+    body::CELLS
+}
+
+// The same in a table of fields of any length that is enough: zeros stand behind.
+fn walk_cells(s: &[u8], rows: &mut [u16], cells: &mut [u16], memory: &mut [u16]) -> Walked
+    ensures { λ w. ⌜ CellsWalked (now (s .entry)) (now (rows .entry)) (now (cells .entry)) (now (memory .entry)) w (now (rows .exit)) (now (cells .exit)) (now (memory .exit)) ⌝ }
+{
+    let b = cells_end();
+    if cells.len() < b {
+        return Walked::Unread;
+    }
+    tables::zero_from(cells, b);
+    read_and_type(s, rows, &mut cells[..b], memory)
+}
+
+// The same in a table of rows of any such length.
+fn walk_file(s: &[u8], rows: &mut [u16], cells: &mut [u16], memory: &mut [u16]) -> Walked
+    ensures { λ w. ⌜ FileWalked (now (s .entry)) (now (rows .entry)) (now (cells .entry)) (now (memory .entry)) w (now (rows .exit)) (now (cells .exit)) (now (memory .exit)) ⌝ }
+{
+    let a = rows_end();
+    if rows.len() < a {
+        return Walked::Unread;
+    }
+    tables::zero_from(rows, a);
+    walk_cells(s, &mut rows[..a], cells, memory)
+}
+
 // Checks a file.
 pub fn check(
     s: &[u8],
@@ -243,13 +88,9 @@ pub fn check(
     if body::MOST_BYTES < s.len() {
         return Answer::TooLong;
     }
-    if too_short(rows, cells, nodes, vars, types, errors, memory) {
+    if answers::too_short(rows, cells, nodes, vars, types, errors, memory) {
         return Answer::ShortTable;
     }
-    let a = body::ROWS;
-    let b = body::CELLS;
-    tables::zero_from(rows, a);
-    tables::zero_from(cells, b);
-    let w = read_and_type(s, &mut rows[..a], &mut cells[..b], memory);
-    hand_back(w, rows, cells, nodes, vars, types, errors, log, memory)
+    let w = walk_file(s, rows, cells, memory);
+    answers::hand_back(w, rows, cells, nodes, vars, types, errors, log, memory)
 }

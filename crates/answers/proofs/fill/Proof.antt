@@ -1,7 +1,7 @@
-use Rattle.checker.proofs.Laws.{made-filled}
+use Rattle.answers.proofs.Laws.{made-filled}
 use borrow.Author.Needs.{needs}
-use Rattle.checker.proofs.fill.Statement.{statement}
-use Rattle.checker.proofs.fill.Tie as tie
+use Rattle.answers.proofs.fill.Statement.{statement}
+use Rattle.answers.proofs.fill.Tie as tie
 
 pub fill-spec : {M : Type 1} → statement M
 fill-spec =

@@ -1,6 +1,6 @@
 use borrow.Author.Needs.{needs}
-use Rattle.checker.proofs.count.Statement.{statement}
-use Rattle.checker.proofs.count.Tie as tie
+use Rattle.answers.proofs.count.Statement.{statement}
+use Rattle.answers.proofs.count.Tie as tie
 
 pub count-spec : {M : Type 1} → statement M
 count-spec =

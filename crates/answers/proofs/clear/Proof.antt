@@ -1,7 +1,7 @@
-use Rattle.checker.proofs.Laws.{all-cleared}
+use Rattle.answers.proofs.Laws.{all-cleared}
 use borrow.Author.Needs.{needs}
-use Rattle.checker.proofs.clear.Statement.{statement}
-use Rattle.checker.proofs.clear.Tie as tie
+use Rattle.answers.proofs.clear.Statement.{statement}
+use Rattle.answers.proofs.clear.Tie as tie
 
 pub clear-spec : {M : Type 1} → statement M
 clear-spec =

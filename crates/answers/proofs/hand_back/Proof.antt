@@ -1,7 +1,7 @@
-use Rattle.checker.proofs.Laws.{handed-typed, handed-declined, handed-refused, handed-unread}
+use Rattle.answers.proofs.Laws.{handed-typed, handed-declined, handed-refused, handed-unread}
 use borrow.Author.Needs.{needs}
-use Rattle.checker.proofs.hand_back.Statement.{statement}
-use Rattle.checker.proofs.hand_back.Tie as tie
+use Rattle.answers.proofs.hand_back.Statement.{statement}
+use Rattle.answers.proofs.hand_back.Tie as tie
 
 pub hand-back-spec : {M : Type 1} → statement M
 hand-back-spec =

@@ -1,7 +1,7 @@
 use borrow.Author.Tests.{lt-ltb, le-ltb}
-use Rattle.checker.specs.Check.{tooShort}
-use Rattle.checker.proofs.too_short.Statement.{statement}
-use Rattle.checker.proofs.too_short.Tie as tie
+use Rattle.answers.specs.Lent.{tooShort}
+use Rattle.answers.proofs.too_short.Statement.{statement}
+use Rattle.answers.proofs.too_short.Tie as tie
 
 pub too-short-spec : {M : Type 1} → statement M
 unfolding tooShort
