@@ -477,7 +477,7 @@ pub fn fill_types(m: &[u16], c: Record, first: u16, t: &mut [u16])
 // ── errors ──
 
 // KIND; what is no position counts as the last.
-fn kind_number(k: u16) -> u16
+pub fn kind_number(k: u16) -> u16
     ensures { λ r. ⌜ r ≡ kindNumber (kindAt k) ⌝ }
 {
     if k < 10 { k } else { 10 }

@@ -1,0 +1,111 @@
+// Bytes and decimal numbers into a lent output, one behind the other. A byte without room makes the cursor Full, and so it stays; the
+// bytes behind the text are unchanged as long as all of it has room.
+ghost use mathlib.Core.List.{_∷_, [], _++_};
+ghost use mathlib.Core.Path.{_≡_};
+ghost use Prim.Native.Nat.{_+_, _%_};
+ghost use Rattle.output.specs.Output.{Appends, Finishes, numberText, digitsOf, newline, zeros};
+
+// Where the next byte goes.
+pub enum Cursor {
+    // At this place of the output.
+    At(usize),
+    // A byte had no room.
+    Full,
+}
+
+// A byte.
+pub fn put(out: &mut [u8], c: Cursor, b: u8) -> Cursor
+    ensures { λ r. ⌜ Appends (b ∷ []) c (now (out .entry)) r (now (out .exit)) ⌝ }
+{
+    match c {
+        Cursor::At(i) => {
+            if i < out.len() {
+                out[i] = b;
+                return Cursor::At(i + 1);
+            }
+            Cursor::Full
+        }
+        Cursor::Full => Cursor::Full,
+    }
+}
+
+// Bytes.
+pub fn put_all(out: &mut [u8], c: Cursor, s: &[u8]) -> Cursor
+    ensures { λ r. ⌜ Appends (now (s .entry)) c (now (out .entry)) r (now (out .exit)) ⌝ }
+{
+    let mut d = c;
+    let mut i = 0;
+    while i < s.len() {
+        d = put(out, d, s[i]);
+        i += 1;
+    }
+    d
+}
+
+// The last digit of a number.
+fn last_digit(n: usize) -> u8
+    ensures { λ r. ⌜ r ≡ 48 + n % 10 ⌝ }
+{
+    48 + (n % 10) as u8
+}
+
+// The digits of a number, at most k of them.
+fn put_digits(out: &mut [u8], c: Cursor, n: usize, k: u8) -> Cursor
+    ensures { λ r. ⌜ Appends (digitsOf k n) c (now (out .entry)) r (now (out .exit)) ⌝ }
+{
+    if k == 0 {
+        return c;
+    }
+    if n < 10 {
+        return put(out, c, last_digit(n));
+    }
+    let d = put_digits(out, c, n / 10, k - 1);
+    put(out, d, last_digit(n))
+}
+
+// A number in decimal digits.
+pub fn put_number(out: &mut [u8], c: Cursor, n: usize) -> Cursor
+    ensures { λ r. ⌜ Appends (numberText n) c (now (out .entry)) r (now (out .exit)) ⌝ }
+{
+    put_digits(out, c, n, 20)
+}
+
+// Bytes, and a number behind them.
+pub fn put_field(out: &mut [u8], c: Cursor, s: &[u8], n: usize) -> Cursor
+    ensures { λ r. ⌜ Appends (now (s .entry) ++ numberText n) c (now (out .entry)) r (now (out .exit)) ⌝ }
+{
+    let d = put_all(out, c, s);
+    put_number(out, d, n)
+}
+
+// The same as a line.
+pub fn put_line(out: &mut [u8], c: Cursor, s: &[u8], n: usize) -> Cursor
+    ensures { λ r. ⌜ Appends ((now (s .entry) ++ numberText n) ++ newline) c (now (out .entry)) r (now (out .exit)) ⌝ }
+{
+    let d = put_field(out, c, s, n);
+    put(out, d, b'\n')
+}
+
+// Zeros throughout.
+fn clear(out: &mut [u8])
+    ensures { λ _. ⌜ now (out .exit) ≡ zeros (now (out .entry)) ⌝ }
+{
+    let mut i = 0;
+    while i < out.len() {
+        out[i] = 0;
+        i += 1;
+    }
+}
+
+// The end of a text: where it had no room, zeros throughout.
+pub fn finish(out: &mut [u8], c: Cursor) -> Cursor
+    ensures { λ r. ⌜ Finishes c (now (out .entry)) r (now (out .exit)) ⌝ }
+{
+    match c {
+        Cursor::At(i) => Cursor::At(i),
+        Cursor::Full => {
+            clear(out);
+            Cursor::Full
+        }
+    }
+}

@@ -1,0 +1,29 @@
+use Rattle.report_text.proofs.LineLaws.{rows-none, rows-next, rows-all}
+use Rattle.report_text.specs.Lines.{nodeLine}
+use Rattle.tables.specs.Rows.{cellsTo}
+use Rattle.output.specs.Output.{Appends}
+use lib.ListN.{length}
+use Prim.Native.Nat.{_≤_, _-_}
+use mathlib.Core.Path.{_≡_, refl, _∙_}
+use borrow.Author.Needs.{needs}
+use Rattle.report_text.proofs.put_nodes.Statement.{statement}
+use Rattle.report_text.proofs.put_nodes.Tie as tie
+
+abbrev Inv-loop : tie.InvT-loop
+Inv-loop out₀ t n d₀ i₀ out d i = Appends (cellsTo (nodeLine t) i) d₀ out₀ d out × (i ≤ n) × (length out ≡ length out₀)
+
+abbrev μ-loop : tie.MeasureT-loop
+μ-loop out₀ t n d₀ i₀ out d i = n - i
+
+pub put-nodes-spec : {M : Type 1} → statement M
+put-nodes-spec =
+    tie.close (tie.spec
+    Inv-loop
+    μ-loop
+    (λ c. (rows-none _ _ _, search needs, refl))
+    (λ c κs. search needs)
+    (λ c. search needs)
+    (λ c. search needs)
+    (λ c. (rows-next _ _ (c .before .before .before .before .before .loop .inv .0) (c .before .before .put-node .ensures), search needs, (c .before .before .put-node .kept .0) ∙ (c .before .before .before .before .before .loop .inv .2)))
+    (λ c. (c .before .loop .inv .2))
+    (λ c. rows-all _ _ _ (c .before .loop .inv .1) (c .loop-test .left) (c .before .loop .inv .0)))

@@ -1,0 +1,339 @@
+// The lines of document 01's report, from the lent tables of `check` into a lent output.
+ghost use mathlib.Core.Path.{_≡_};
+ghost use mathlib.Core.List.{_++_};
+ghost use mathlib.Core.Option.{none, some};
+ghost use lib.ListN.{take};
+ghost use Rattle.type_table.specs.Memory.{cell, kindOf};
+ghost use Rattle.lex.specs.Text.{text};
+ghost use Rattle.record.specs.Own.{extraOf, kindAt, spanOf, secondOf};
+ghost use Rattle.tables.specs.Read.{cellsAt, madeAt};
+ghost use Rattle.output.specs.declared.Cursor.the-variants.{At as Cursor·At};
+ghost use Rattle.output.specs.Output.{Appends, numberText};
+ghost use Rattle.report_text.specs.Lines.{optionText, optionAt, eachText, answerLine, typeText, typeLine, typeLines, kindText, varLine, varLines, extraText, nodeLine, nodeLines, spanText, secondText, errorIn, errorLine, errorLines, tablesText, lambdaText, placeText, valueCount, valueCells};
+use output::Cursor;
+
+// ── parts of a line ──
+
+// A comma, and the number of a cell.
+fn put_cell(out: &mut [u8], c: Cursor, t: &[u16], i: usize) -> Cursor
+    ensures { λ r. ⌜ Appends (text "," ++ numberText (cell (now (t .entry)) i)) c (now (out .entry)) r (now (out .exit)) ⌝ }
+{
+    output::put_field(out, c, b",", refs::at(t, i) as usize)
+}
+
+// Bytes, and the number behind the flag at i; `-` where the flag is not 1.
+fn put_option(out: &mut [u8], c: Cursor, s: &[u8], t: &[u16], i: u32) -> Cursor
+    ensures { λ r. ⌜ Appends (now (s .entry) ++ optionText (optionAt (now (t .entry)) i)) c (now (out .entry)) r (now (out .exit)) ⌝ }
+{
+    let d = output::put_all(out, c, s);
+    if refs::at(t, i as usize) == 1 {
+        return output::put_number(out, d, refs::at(t, i as usize + 1) as usize);
+    }
+    output::put(out, d, b'-')
+}
+
+// ── made types ──
+
+// The numbers of some cells, each behind a comma.
+fn put_each(out: &mut [u8], c: Cursor, t: &[u16]) -> Cursor
+    ensures { λ r. ⌜ Appends (eachText (now (t .entry))) c (now (out .entry)) r (now (out .exit)) ⌝ }
+{
+    let mut d = c;
+    let mut i = 0;
+    while i < t.len() {
+        d = put_cell(out, d, t, i);
+        i += 1;
+    }
+    d
+}
+
+// The k cells of a table from f on, as many as there are.
+fn put_part(out: &mut [u8], c: Cursor, t: &[u16], f: usize, k: usize) -> Cursor
+    ensures { λ r. ⌜ Appends (eachText (cellsAt (now (t .entry)) f k)) c (now (out .entry)) r (now (out .exit)) ⌝ }
+{
+    let n = t.len();
+    if n < f {
+        return c;
+    }
+    if n - f < k {
+        return put_each(out, c, &t[f..n]);
+    }
+    put_each(out, c, &t[f..f + k])
+}
+
+// Node, output and inputs of a lambda, the made type of the number i.
+fn put_lambda(out: &mut [u8], c: Cursor, t: &[u16], i: u16) -> Cursor
+    ensures { λ r. ⌜ Appends (lambdaText (now (t .entry)) i) c (now (out .entry)) r (now (out .exit)) ⌝ }
+{
+    let at = i as usize * 5;
+    let a = output::put_field(out, c, b"type=lambda,", refs::at(t, at + 1) as usize);
+    let b = put_cell(out, a, t, at + 2);
+    let f = refs::at(t, at + 3);
+    let k = refs::at(t, at + 4);
+    put_part(
+        out,
+        b,
+        t,
+        tables::INPUTS_FROM as usize + f as usize,
+        k as usize,
+    )
+}
+
+// What the made type of the number i is.
+fn put_made(out: &mut [u8], c: Cursor, t: &[u16], i: u16) -> Cursor
+    ensures { λ r. ⌜ Appends (text "type=" ++ typeText (madeAt (now (t .entry)) i)) c (now (out .entry)) r (now (out .exit)) ⌝ }
+{
+    let at = i as usize * 5;
+    let h = refs::at(t, at);
+    let n = refs::at(t, at + 1) as usize;
+    match h {
+        5 => output::put_field(out, c, b"type=inst,", n),
+        7 => output::put_field(out, c, b"type=fn,", n),
+        8 => output::put_field(out, c, b"type=array,", n),
+        12 => output::put_field(out, c, b"type=var,", n),
+        13 => put_lambda(out, c, t, i),
+        14 => output::put_field(out, c, b"type=ref,", n),
+        _ => output::put_all(out, c, b"type=-"),
+    }
+}
+
+// The made type of the number i.
+fn put_type(out: &mut [u8], c: Cursor, t: &[u16], i: u16) -> Cursor
+    ensures { λ r. ⌜ Appends (typeLine (now (t .entry)) i) c (now (out .entry)) r (now (out .exit)) ⌝ }
+{
+    let d = put_made(out, c, t, i);
+    output::put(out, d, b'\n')
+}
+
+// How many made types there are, and each.
+fn put_types(out: &mut [u8], c: Cursor, t: &[u16], n: u16) -> Cursor
+    ensures { λ r. ⌜ Appends (typeLines (now (t .entry)) n) c (now (out .entry)) r (now (out .exit)) ⌝ }
+{
+    let mut d = output::put_line(out, c, b"types=", n as usize);
+    let mut i: u16 = 0;
+    while i < n {
+        d = put_type(out, d, t, i);
+        i += 1;
+    }
+    d
+}
+
+// ── variables ──
+
+// KIND.
+fn put_kind(out: &mut [u8], c: Cursor, k: u16) -> Cursor
+    ensures { λ r. ⌜ Appends (text "var=" ++ kindText (kindOf k)) c (now (out .entry)) r (now (out .exit)) ⌝ }
+{
+    match k {
+        1 => output::put_all(out, c, b"var=int"),
+        2 => output::put_all(out, c, b"var=float"),
+        _ => output::put_all(out, c, b"var=any"),
+    }
+}
+
+// The variable v.
+fn put_var(out: &mut [u8], c: Cursor, t: &[u16], v: u16) -> Cursor
+    ensures { λ r. ⌜ Appends (varLine (now (t .entry)) v) c (now (out .entry)) r (now (out .exit)) ⌝ }
+{
+    let at = v as u32 * 6;
+    let a = put_kind(out, c, refs::at(t, at as usize));
+    let b = put_option(out, a, b",", t, at + 1);
+    let d = put_option(out, b, b",", t, at + 3);
+    output::put(out, d, b'\n')
+}
+
+// How many variables there are, and each.
+fn put_vars(out: &mut [u8], c: Cursor, t: &[u16], n: u16) -> Cursor
+    ensures { λ r. ⌜ Appends (varLines (now (t .entry)) n) c (now (out .entry)) r (now (out .exit)) ⌝ }
+{
+    let mut d = output::put_line(out, c, b"vars=", n as usize);
+    let mut v: u16 = 0;
+    while v < n {
+        d = put_var(out, d, t, v);
+        v += 1;
+    }
+    d
+}
+
+// ── nodes ──
+
+// EXTRA, by its tag and its number.
+fn put_extra(out: &mut [u8], c: Cursor, e: u16, n: usize) -> Cursor
+    ensures { λ r. ⌜ Appends (text "," ++ extraText (extraOf e n)) c (now (out .entry)) r (now (out .exit)) ⌝ }
+{
+    match e {
+        0 => output::put_all(out, c, b",-"),
+        1 => output::put_field(out, c, b",l", n),
+        2 => output::put_field(out, c, b",f", n),
+        3 => output::put_field(out, c, b",c", n),
+        4 => output::put_field(out, c, b",i", n),
+        5 => output::put_all(out, c, b",e"),
+        7 => output::put_field(out, c, b",", n),
+        8 => output::put_field(out, c, b",", n),
+        _ => output::put_all(out, c, b",o"),
+    }
+}
+
+// The node i: RAW, FINAL, EXTRA.
+fn put_node(out: &mut [u8], c: Cursor, t: &[u16], i: u16) -> Cursor
+    ensures { λ r. ⌜ Appends (nodeLine (now (t .entry)) i) c (now (out .entry)) r (now (out .exit)) ⌝ }
+{
+    let at = i as u32 * 6;
+    let a = put_option(out, c, b"node=", t, at);
+    let b = put_option(out, a, b",", t, at + 4);
+    let e = refs::at(t, at as usize + 2);
+    let d = put_extra(out, b, e, refs::at(t, at as usize + 3) as usize);
+    output::put(out, d, b'\n')
+}
+
+// The nodes.
+fn put_nodes(out: &mut [u8], c: Cursor, t: &[u16], n: u16) -> Cursor
+    ensures { λ r. ⌜ Appends (nodeLines (now (t .entry)) n) c (now (out .entry)) r (now (out .exit)) ⌝ }
+{
+    let mut d = c;
+    let mut i: u16 = 0;
+    while i < n {
+        d = put_node(out, d, t, i);
+        i += 1;
+    }
+    d
+}
+
+// ── errors ──
+
+// P, by its tag and its number.
+fn put_span(out: &mut [u8], c: Cursor, p: u16, n: usize) -> Cursor
+    ensures { λ r. ⌜ Appends (text "," ++ spanText (spanOf p n)) c (now (out .entry)) r (now (out .exit)) ⌝ }
+{
+    match p {
+        0 => output::put_field(out, c, b",", n),
+        1 => output::put_field(out, c, b",d", n),
+        _ => output::put_all(out, c, b",sig"),
+    }
+}
+
+// Q, by its flag and its number.
+fn put_second(out: &mut [u8], c: Cursor, q: u16, n: usize) -> Cursor
+    ensures { λ r. ⌜ Appends (text "," ++ secondText (secondOf q n)) c (now (out .entry)) r (now (out .exit)) ⌝ }
+{
+    if q == 0 {
+        return output::put_all(out, c, b",-");
+    }
+    output::put_field(out, c, b",", n)
+}
+
+// How many values an error of this kind has.
+fn values(k: u16) -> u16
+    ensures { λ r. ⌜ r ≡ valueCount (kindAt k) ⌝ }
+{
+    match k {
+        0 => 2,
+        1 => 1,
+        2 => 1,
+        3 => 2,
+        4 => 1,
+        5 => 3,
+        6 => 2,
+        7 => 2,
+        8 => 1,
+        9 => 2,
+        _ => 0,
+    }
+}
+
+// The values of the error i, n of them.
+fn put_values(out: &mut [u8], c: Cursor, t: &[u16], i: u16, n: u16) -> Cursor
+    ensures { λ r. ⌜ Appends (eachText (take n (valueCells (now (t .entry)) i))) c (now (out .entry)) r (now (out .exit)) ⌝ }
+{
+    let at = i as usize * 9;
+    if n == 0 {
+        return c;
+    }
+    let a = put_cell(out, c, t, at + 6);
+    if n == 1 {
+        return a;
+    }
+    let b = put_cell(out, a, t, at + 7);
+    if n == 2 {
+        return b;
+    }
+    put_cell(out, b, t, at + 8)
+}
+
+// P and Q of the error i.
+fn put_place(out: &mut [u8], c: Cursor, t: &[u16], i: u16) -> Cursor
+    ensures { λ r. ⌜ Appends (placeText (errorIn (now (t .entry)) i)) c (now (out .entry)) r (now (out .exit)) ⌝ }
+{
+    let at = i as usize * 9;
+    let p = refs::at(t, at + 2);
+    let d = put_span(out, c, p, refs::at(t, at + 3) as usize);
+    let q = refs::at(t, at + 4);
+    put_second(out, d, q, refs::at(t, at + 5) as usize)
+}
+
+// The error i.
+fn put_error(out: &mut [u8], c: Cursor, t: &[u16], i: u16) -> Cursor
+    ensures { λ r. ⌜ Appends (errorLine (now (t .entry)) i) c (now (out .entry)) r (now (out .exit)) ⌝ }
+{
+    let at = i as usize * 9;
+    let k = refs::at(t, at);
+    let a = output::put_field(out, c, b"error=", tables::kind_number(k) as usize);
+    let b = put_cell(out, a, t, at + 1);
+    let d = put_place(out, b, t, i);
+    let e = put_values(out, d, t, i, values(k));
+    output::put(out, e, b'\n')
+}
+
+// How many errors there are, and each.
+fn put_errors(out: &mut [u8], c: Cursor, t: &[u16], n: u16) -> Cursor
+    ensures { λ r. ⌜ Appends (errorLines (now (t .entry)) n) c (now (out .entry)) r (now (out .exit)) ⌝ }
+{
+    let mut d = output::put_line(out, c, b"errors=", n as usize);
+    let mut i: u16 = 0;
+    while i < n {
+        d = put_error(out, d, t, i);
+        i += 1;
+    }
+    d
+}
+
+// ── the report ──
+
+// An answer line without a place.
+pub fn put_answer(out: &mut [u8], k: usize) -> Cursor
+    ensures { λ r. ⌜ Appends (answerLine k none) (Cursor·At 0) (now (out .entry)) r (now (out .exit)) ⌝ }
+{
+    let c = output::put_field(out, Cursor::At(0), b"answer=", k);
+    let d = output::put_all(out, c, b",-");
+    output::put(out, d, b'\n')
+}
+
+// An answer line with a place.
+pub fn put_refusal(out: &mut [u8], k: usize, p: usize) -> Cursor
+    ensures { λ r. ⌜ Appends (answerLine k (some p)) (Cursor·At 0) (now (out .entry)) r (now (out .exit)) ⌝ }
+{
+    let c = output::put_field(out, Cursor::At(0), b"answer=", k);
+    let d = output::put_field(out, c, b",", p);
+    output::put(out, d, b'\n')
+}
+
+// What stands behind the answer of a body that was checked: t made types, v variables, n nodes, e errors.
+pub fn put_tables(
+    out: &mut [u8],
+    c: Cursor,
+    t: u16,
+    v: u16,
+    n: u16,
+    e: u16,
+    nodes: &[u16],
+    vars: &[u16],
+    types: &[u16],
+    errors: &[u16],
+) -> Cursor
+    ensures { λ r. ⌜ Appends (tablesText t v n e (now (nodes .entry)) (now (vars .entry)) (now (types .entry)) (now (errors .entry))) c (now (out .entry)) r (now (out .exit)) ⌝ }
+{
+    let a = put_types(out, c, types, t);
+    let b = put_vars(out, a, vars, v);
+    let d = put_nodes(out, b, nodes, n);
+    put_errors(out, d, errors, e)
+}
