@@ -1,58 +1,11 @@
 -- What `report` answers, leaves in the lent tables and writes into the lent output, on every input bytes. Definitions alone.
-use mathlib.Core.List.{List, [], _++_}
-use mathlib.Core.Option.{Option, none}
-use mathlib.Core.Bool.{cond}
+use mathlib.Core.List.{List}
+use mathlib.Core.Option.{Option}
 use Prim.Native.Nat.{ℕ}
-use lib.ListN.{length, drop}
-use lib.Dec.{ltb}
-use Rattle.answers.specs.declared.Answer.{Answer}
-use Rattle.answers.specs.declared.Answer.the-variants as answer
-use Rattle.answers.specs.Lent.{Lent, answerNumber, answerPlace}
+use Rattle.answers.specs.Lent.{Lent}
 use Rattle.checker.specs.Check.{checkOf}
-use Rattle.output.specs.Output.{zeros}
-use Rattle.report_text.specs.Lines.{answerLine, tablesText}
-use Rattle.report.specs.declared.Reported.{Reported}
-use Rattle.report.specs.declared.Reported.the-variants.{Written, NoRoom}
-
--- ── the text ──
-
--- the lines behind the first: those of the tables on 0, none for a refusal
-abbrev pub behindAnswer : Answer → List ℕ → List ℕ → List ℕ → List ℕ → List ℕ
-behindAnswer (answer.Checked n) nodes vars types errors = tablesText (n .types) (n .vars) (n .declared .nodes) (n .errors) nodes vars types errors
-behindAnswer answer.TooLong nodes vars types errors = []
-behindAnswer answer.ShortTable nodes vars types errors = []
-behindAnswer (answer.Refused x l) nodes vars types errors = []
-behindAnswer (answer.Declined k n) nodes vars types errors = []
-
--- the report of an answer with these tables: the `answer` line, and what stands behind it
-unfoldable pub textOf : Answer → List ℕ → List ℕ → List ℕ → List ℕ → List ℕ
-textOf a nodes vars types errors = answerLine (answerNumber a) (answerPlace a) ++ behindAnswer a nodes vars types errors
-
--- ── the answer ──
-
--- document 01's number: Check's own, or 9
-abbrev pub reportNumber : Reported → ℕ
-reportNumber (Written a n) = answerNumber a
-reportNumber (NoRoom a) = 9
-
--- PLACE: Check's own, `-` for 9
-abbrev pub reportPlace : Reported → Option ℕ
-reportPlace (Written a n) = answerPlace a
-reportPlace (NoRoom a) = none
-
--- what is answered, and what is then in the output
-pub record Said : Type 0 where
-  pub answer : Reported
-  pub output : List ℕ
-
-abbrev pub said : Reported → List ℕ → Said
-said r o = record { answer = r; output = o }
-
--- the text t of the answer a into the output o: bytes after the text are unchanged; 9 where it is too short, and zeros throughout
-unfoldable pub written : Answer → List ℕ → List ℕ → Said
-written a t o = cond (ltb (length o) (length t)) (said (NoRoom a) (zeros o)) (said (Written a (length t)) (t ++ drop (length t) o))
-
--- ── `report` ──
+use Rattle.report_text.specs.declared.Reported.{Reported}
+use Rattle.report_text.specs.Written.{textOf, reportNumber, reportPlace, written}
 
 -- an answer with its number and its PLACE, and what is then in the tables and in the output
 pub record Told : Type 0 where

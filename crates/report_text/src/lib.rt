@@ -4,13 +4,27 @@ ghost use mathlib.Core.List.{_++_};
 ghost use mathlib.Core.Option.{none, some};
 ghost use lib.ListN.{take};
 ghost use Rattle.type_table.specs.Memory.{cell, kindOf};
+ghost use Rattle.body.specs.Body.{faultNumber};
+ghost use Rattle.answers.specs.declared.Answer.the-variants.{Checked};
 ghost use Rattle.lex.specs.Text.{text};
 ghost use Rattle.record.specs.Own.{extraOf, kindAt, spanOf, secondOf};
 ghost use Rattle.tables.specs.Read.{cellsAt, madeAt};
-ghost use Rattle.output.specs.declared.Cursor.the-variants.{At as Cursor·At};
+ghost use Rattle.output.specs.declared.Cursor.the-variants.{At};
 ghost use Rattle.output.specs.Output.{Appends, numberText};
 ghost use Rattle.report_text.specs.Lines.{optionText, optionAt, eachText, answerLine, typeText, typeLine, typeLines, kindText, varLine, varLines, extraText, nodeLine, nodeLines, spanText, secondText, errorIn, errorLine, errorLines, tablesText, lambdaText, placeText, valueCount, valueCells};
+ghost use Rattle.report_text.specs.Written.{textOf, said, written};
+use answers::Answer;
+use answers::Totals;
+use forms::Fault;
 use output::Cursor;
+
+// What `report` answers.
+pub enum Reported {
+    // The answer of the check, and how many bytes its report has.
+    Written(Answer, usize),
+    // 9: the output is too short for the report of this answer.
+    NoRoom(Answer),
+}
 
 // ── parts of a line ──
 
@@ -300,8 +314,8 @@ fn put_errors(out: &mut [u8], c: Cursor, t: &[u16], n: u16) -> Cursor
 // ── the report ──
 
 // An answer line without a place.
-pub fn put_answer(out: &mut [u8], k: usize) -> Cursor
-    ensures { λ r. ⌜ Appends (answerLine k none) (Cursor·At 0) (now (out .entry)) r (now (out .exit)) ⌝ }
+fn put_answer(out: &mut [u8], k: usize) -> Cursor
+    ensures { λ r. ⌜ Appends (answerLine k none) (At 0) (now (out .entry)) r (now (out .exit)) ⌝ }
 {
     let c = output::put_field(out, Cursor::At(0), b"answer=", k);
     let d = output::put_all(out, c, b",-");
@@ -309,8 +323,8 @@ pub fn put_answer(out: &mut [u8], k: usize) -> Cursor
 }
 
 // An answer line with a place.
-pub fn put_refusal(out: &mut [u8], k: usize, p: usize) -> Cursor
-    ensures { λ r. ⌜ Appends (answerLine k (some p)) (Cursor·At 0) (now (out .entry)) r (now (out .exit)) ⌝ }
+fn put_refusal(out: &mut [u8], k: usize, p: usize) -> Cursor
+    ensures { λ r. ⌜ Appends (answerLine k (some p)) (At 0) (now (out .entry)) r (now (out .exit)) ⌝ }
 {
     let c = output::put_field(out, Cursor::At(0), b"answer=", k);
     let d = output::put_field(out, c, b",", p);
@@ -318,7 +332,7 @@ pub fn put_refusal(out: &mut [u8], k: usize, p: usize) -> Cursor
 }
 
 // What stands behind the answer of a body that was checked: t made types, v variables, n nodes, e errors.
-pub fn put_tables(
+fn put_tables(
     out: &mut [u8],
     c: Cursor,
     t: u16,
@@ -336,4 +350,75 @@ pub fn put_tables(
     let b = put_vars(out, a, vars, v);
     let d = put_nodes(out, b, nodes, n);
     put_errors(out, d, errors, e)
+}
+
+// ── by the answer ──
+
+// Document 01's number of a refusal of the reader.
+fn fault_number(f: Fault) -> usize
+    ensures { λ r. ⌜ r ≡ faultNumber f ⌝ }
+{
+    match f {
+        Fault::Form => 3,
+        Fault::Limit => 4,
+        Fault::Reference => 5,
+        Fault::Levels => 6,
+    }
+}
+
+// The report of a body that was checked.
+fn put_checked(
+    out: &mut [u8],
+    n: Totals,
+    nodes: &[u16],
+    vars: &[u16],
+    types: &[u16],
+    errors: &[u16],
+) -> Cursor
+    ensures { λ r. ⌜ Appends (textOf (Checked n) (now (nodes .entry)) (now (vars .entry)) (now (types .entry)) (now (errors .entry))) (At 0) (now (out .entry)) r (now (out .exit)) ⌝ }
+{
+    let k = n.declared.nodes;
+    let t = n.types;
+    let v = n.vars;
+    let e = n.errors;
+    let c = put_answer(out, 0);
+    put_tables(out, c, t, v, k, e, nodes, vars, types, errors)
+}
+
+// The report of an answer and its tables.
+fn put_report(
+    out: &mut [u8],
+    a: Answer,
+    nodes: &[u16],
+    vars: &[u16],
+    types: &[u16],
+    errors: &[u16],
+) -> Cursor
+    ensures { λ r. ⌜ Appends (textOf a (now (nodes .entry)) (now (vars .entry)) (now (types .entry)) (now (errors .entry))) (At 0) (now (out .entry)) r (now (out .exit)) ⌝ }
+{
+    match a {
+        Answer::Checked(n) => put_checked(out, n, nodes, vars, types, errors),
+        Answer::TooLong => put_answer(out, 1),
+        Answer::ShortTable => put_answer(out, 2),
+        Answer::Refused(f, l) => put_refusal(out, fault_number(f), l),
+        Answer::Declined(k, p) => put_refusal(out, k as usize, p.0 as usize),
+    }
+}
+
+// The report of an answer into an output of any length.
+pub fn write_report(
+    out: &mut [u8],
+    a: Answer,
+    nodes: &[u16],
+    vars: &[u16],
+    types: &[u16],
+    errors: &[u16],
+) -> Reported
+    ensures { λ r. ⌜ said r (now (out .exit)) ≡ written a (textOf a (now (nodes .entry)) (now (vars .entry)) (now (types .entry)) (now (errors .entry))) (now (out .entry)) ⌝ }
+{
+    let c = put_report(out, a, nodes, vars, types, errors);
+    match output::finish(out, c) {
+        Cursor::At(n) => Reported::Written(a, n),
+        Cursor::Full => Reported::NoRoom(a),
+    }
 }

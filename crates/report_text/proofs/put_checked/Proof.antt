@@ -1,8 +1,8 @@
-use Rattle.report.specs.Report.{textOf}
+use Rattle.report_text.specs.Written.{textOf}
 use Rattle.output.specs.Appending.{then}
 use borrow.Author.Needs.{needs}
-use Rattle.report.proofs.put_checked.Statement.{statement}
-use Rattle.report.proofs.put_checked.Tie as tie
+use Rattle.report_text.proofs.put_checked.Statement.{statement}
+use Rattle.report_text.proofs.put_checked.Tie as tie
 
 pub put-checked-spec : {M : Type 1} → statement M
 unfolding textOf

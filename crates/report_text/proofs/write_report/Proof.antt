@@ -1,7 +1,7 @@
-use Rattle.report.proofs.ReportLaws.{write-at, write-full}
+use Rattle.report_text.proofs.WriteLaws.{write-at, write-full}
 use borrow.Author.Needs.{needs}
-use Rattle.report.proofs.write_report.Statement.{statement}
-use Rattle.report.proofs.write_report.Tie as tie
+use Rattle.report_text.proofs.write_report.Statement.{statement}
+use Rattle.report_text.proofs.write_report.Tie as tie
 
 pub write-report-spec : {M : Type 1} → statement M
 write-report-spec =

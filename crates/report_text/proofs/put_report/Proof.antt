@@ -1,7 +1,7 @@
-use Rattle.report.proofs.ReportLaws.{text-checked, text-long, text-short, text-refused, text-declined}
+use Rattle.report_text.proofs.WriteLaws.{text-checked, text-long, text-short, text-refused, text-declined}
 use borrow.Author.Needs.{needs}
-use Rattle.report.proofs.put_report.Statement.{statement}
-use Rattle.report.proofs.put_report.Tie as tie
+use Rattle.report_text.proofs.put_report.Statement.{statement}
+use Rattle.report_text.proofs.put_report.Tie as tie
 
 pub put-report-spec : {M : Type 1} → statement M
 put-report-spec =
