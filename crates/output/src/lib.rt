@@ -90,10 +90,10 @@ pub fn put_line(out: &mut [u8], c: Cursor, s: &[u8], n: usize) -> Cursor
 fn clear(out: &mut [u8])
     ensures { λ _. ⌜ now (out .exit) ≡ zeros (now (out .entry)) ⌝ }
 {
-    let mut i = 0;
-    while i < out.len() {
-        out[i] = 0;
-        i += 1;
+    let mut j = 0;
+    while j < out.len() {
+        out[j] = 0;
+        j += 1;
     }
 }
 

@@ -8,10 +8,10 @@ use Rattle.output.proofs.clear.Statement.{statement}
 use Rattle.output.proofs.clear.Tie as tie
 
 abbrev Inv-loop : tie.InvT-loop
-Inv-loop out₀ i₀ out i = (take i out ≡ replicate i 0) × (i ≤ length out) × (length out ≡ length out₀)
+Inv-loop out₀ j₀ out j = (take j out ≡ replicate j 0) × (j ≤ length out) × (length out ≡ length out₀)
 
 abbrev μ-loop : tie.MeasureT-loop
-μ-loop out₀ i₀ out i = length out₀ - i
+μ-loop out₀ j₀ out j = length out₀ - j
 
 pub clear-spec : {M : Type 1} → statement M
 clear-spec =
@@ -22,6 +22,6 @@ clear-spec =
     (λ c. search needs)
     (λ c. search needs)
     (λ c. omega (arith, (c .before .loop .inv .2), (c .loop-test .taken)))
-    (λ c. (zero-next _ _ (c .loop-test .taken) (c .before .loop .inv .0), omega (arith, (c .loop-test .taken), length-set (c .before .loop .out) (c .before .loop .i) 0), length-set (c .before .loop .out) (c .before .loop .i) 0 ∙ (c .before .loop .inv .2)))
+    (λ c. (zero-next _ _ (c .loop-test .taken) (c .before .loop .inv .0), omega (arith, (c .loop-test .taken), length-set (c .before .loop .out) (c .before .loop .j) 0), length-set (c .before .loop .out) (c .before .loop .j) 0 ∙ (c .before .loop .inv .2)))
     (λ c. (c .before .loop .inv .2))
     (λ c. zero-all (c .before .before .args .out .now) _ _ (c .loop-test .left) (c .before .loop .inv .1) (c .before .loop .inv .0) (c .before .loop .inv .2)))

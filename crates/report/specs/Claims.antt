@@ -1,0 +1,52 @@
+-- The claims of `report`. Its contract has answer, number, PLACE, tables and output as `reportOf` of the file and of what was lent; here is what that
+-- says, case by case, on every input bytes and every room. Assumes nothing.
+use mathlib.Core.Path.{_≡_, refl}
+use mathlib.Core.List.{List, _++_, append-nil}
+use mathlib.Core.Bool.{Bool, true, false, cond}
+use Prim.Native.Nat.{ℕ, _≤_, _<_}
+use lib.ListN.{length, drop}
+use lib.Dec.{ltb}
+use borrow.Author.Tests.{lt-ltb, le-ltb}
+use Rattle.answers.specs.declared.Answer.{Answer}
+use Rattle.answers.specs.declared.Answer.the-variants as answer
+use Rattle.answers.specs.Lent.{Lent, answerNumber, answerPlace}
+use Rattle.checker.specs.Check.{checkOf}
+use Rattle.output.specs.Output.{zeros}
+use Rattle.report_text.specs.declared.Reported.the-variants.{Written, NoRoom}
+use Rattle.report_text.specs.Lines.{answerLine}
+use Rattle.report_text.specs.Written.{textOf}
+use Rattle.report.specs.Report.{told, reportText, reportOf}
+
+-- a refusal
+alone : (a : Answer) (nodes vars types errors : List ℕ) → (answerNumber a ≡ 0 → ⊥) → textOf a nodes vars types errors ≡ answerLine (answerNumber a) (answerPlace a)
+unfolding textOf
+alone (answer.Checked n) nodes vars types errors h = absurd (h refl)
+alone answer.TooLong nodes vars types errors h = append-nil _
+alone answer.ShortTable nodes vars types errors h = append-nil _
+alone (answer.Refused x l) nodes vars types errors h = append-nil _
+alone (answer.Declined k n) nodes vars types errors h = append-nil _
+
+module _ (s : List ℕ) (l : Lent) (o : List ℕ) where
+  -- with room, the answer is Check's own with the text's length; the output begins with the text, and the bytes after it are unchanged
+  pub with-room : length (reportText s l) ≤ length o → reportOf s l o ≡ told (Written (checkOf s l .answer) (length (reportText s l))) (checkOf s l .tables) (reportText s l ++ drop (length (reportText s l)) o)
+  unfolding reportOf
+  with-room h = rw (le-ltb (length o) (length (reportText s l)) h)
+
+  -- without, the answer is 9 with PLACE `-`, the output is zero throughout
+  pub without-room : length o < length (reportText s l) → reportOf s l o ≡ told (NoRoom (checkOf s l .answer)) (checkOf s l .tables) (zeros o)
+  unfolding reportOf
+  without-room h = rw (lt-ltb (length o) (length (reportText s l)) h)
+
+  -- the tables are as Check leaves them, whatever the room: the claims on `check` hold of them
+  pub tables-as-checked : reportOf s l o .tables ≡ checkOf s l .tables
+  unfolding reportOf
+  tables-as-checked = by (ltb (length o) (length (reportText s l)))
+    where
+      by : (b : Bool) → cond b (told (NoRoom (checkOf s l .answer)) (checkOf s l .tables) (zeros o)) (told (Written (checkOf s l .answer) (length (reportText s l))) (checkOf s l .tables) (reportText s l ++ drop (length (reportText s l)) o)) .tables ≡ checkOf s l .tables
+      by true = refl
+      by false = refl
+
+  -- the text of a refusal is the `answer` line alone
+  pub refusal-alone : (answerNumber (checkOf s l .answer) ≡ 0 → ⊥) → reportText s l ≡ answerLine (answerNumber (checkOf s l .answer)) (answerPlace (checkOf s l .answer))
+  unfolding reportText
+  refusal-alone h = alone (checkOf s l .answer) (checkOf s l .tables .nodes) (checkOf s l .tables .vars) (checkOf s l .tables .types) (checkOf s l .tables .errors) h
