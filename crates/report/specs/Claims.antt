@@ -1,6 +1,6 @@
 -- The claims of `report`. Its contract has answer, number, PLACE, tables and output as `reportOf` of the file and of what was lent; here is what that
 -- says, case by case, on every input bytes and every room. Assumes nothing.
-use mathlib.Core.Path.{_≡_, refl}
+use mathlib.Core.Path.{_≡_, refl, sym, ap, _∙_}
 use mathlib.Core.List.{List, _++_, append-nil}
 use mathlib.Core.Bool.{Bool, true, false, cond}
 use Prim.Native.Nat.{ℕ, _≤_, _<_}
@@ -12,10 +12,11 @@ use Rattle.answers.specs.declared.Answer.the-variants as answer
 use Rattle.answers.specs.Lent.{Lent, answerNumber, answerPlace}
 use Rattle.checker.specs.Check.{checkOf}
 use Rattle.output.specs.Output.{zeros}
+use Rattle.report_text.specs.declared.Reported.{Reported}
 use Rattle.report_text.specs.declared.Reported.the-variants.{Written, NoRoom}
 use Rattle.report_text.specs.Lines.{answerLine}
 use Rattle.report_text.specs.Written.{textOf}
-use Rattle.report.specs.Report.{told, reportText, reportOf}
+use Rattle.report.specs.Report.{Told, told, reportText, reportOf}
 
 -- a refusal
 alone : (a : Answer) (nodes vars types errors : List ℕ) → (answerNumber a ≡ 0 → ⊥) → textOf a nodes vars types errors ≡ answerLine (answerNumber a) (answerPlace a)
@@ -27,6 +28,10 @@ alone (answer.Refused x l) nodes vars types errors h = append-nil _
 alone (answer.Declined k n) nodes vars types errors h = append-nil _
 
 module _ (s : List ℕ) (l : Lent) (o : List ℕ) where
+  -- the promise of `report` holds of one answer, tables and output, and of no other
+  pub one-result : (a b : Reported) (u v : Lent) (x y : List ℕ) → told a u x ≡ reportOf s l o → told b v y ≡ reportOf s l o → (a ≡ b) × (u ≡ v) × (x ≡ y)
+  one-result a b u v x y p q = (ap (λ (h : Told). h .answer) (p ∙ sym q), ap (λ (h : Told). h .tables) (p ∙ sym q), ap (λ (h : Told). h .output) (p ∙ sym q))
+
   -- with room, the answer is Check's own with the text's length; the output begins with the text, and the bytes after it are unchanged
   pub with-room : length (reportText s l) ≤ length o → reportOf s l o ≡ told (Written (checkOf s l .answer) (length (reportText s l))) (checkOf s l .tables) (reportText s l ++ drop (length (reportText s l)) o)
   unfolding reportOf
