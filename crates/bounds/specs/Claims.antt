@@ -7,6 +7,7 @@ use mathlib.Core.Path.{_≡_, refl}
 use mathlib.Core.Logic.{_↔_}
 use mathlib.Core.List.{List, [], _∷_, _++_}
 use mathlib.Core.Option.{none, some}
+use mathlib.Core.Bool.{true}
 use Prim.Native.Nat.{ℕ, _+_, _*_, _<_, _≤_}
 use native.Mathlib.Omega.{arith}
 use borrow.Author.Tests.{lt-ltb}
@@ -34,6 +35,7 @@ use Rattle.bounds.specs.Body.{body-cost, body-adds}
 use Rattle.bounds.specs.Levels.{body-levels}
 use Rattle.bounds.specs.Declared.{lineShape, behindTypes}
 use Rattle.bounds.specs.Declared as declared
+use Rattle.bounds.specs.Confined.{isMade}
 use Rattle.bounds.specs.Made as made
 use Rattle.bounds.specs.Answered.{answered, unanswered}
 use Rattle.bounds.specs.Refusals.{body-placed}
@@ -157,6 +159,10 @@ module _ (n : Counts) (rows cells : List ℕ) (w : WellFormed n rows cells) (o :
   -- the made ones at most 4,096,
   pub made-count : length (drop (14 + n .types) (after n rows cells o .rows)) ≤ 4096
   made-count = omega (arith, made.made-count n rows cells (blank o) w, w .limited .nodes)
+
+  -- each of the form `var,V`, `array,E`, `ref,E`, `fn,D`, `inst,K` or `lambda,NODE,OUT,IN..`,
+  pub made-forms : All (λ s. isMade s ≡ true) (drop (14 + n .types) (after n rows cells o .rows))
+  made-forms = made.made-forms n rows cells (blank o) w
 
   -- with at most one input for each node
   pub made-inputs : inputTotal (drop (14 + n .types) (after n rows cells o .rows)) ≤ n .nodes

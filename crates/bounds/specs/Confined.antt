@@ -1,4 +1,4 @@
--- The programs of the rules, whatever numbers are types: they make types of such types that are no function types, raise equations of such types, and
+-- The programs of the rules, whatever numbers are types: they make types of such types, each of one of six forms, raise equations of such types, and
 -- refuse with 10 to 13 at a node of the file. The steps and the rules that type no other node are such programs. Assumes nothing.
 use mathlib.Core.Path.{_≡_, refl}
 use mathlib.Core.List.{List, [], _∷_, map}
@@ -26,7 +26,7 @@ use Rattle.nodes.specs.declared.UnOp.{UnOp}
 use Rattle.nodes.specs.declared.UnOp.the-variants as un
 use Rattle.nodes.specs.declared.Callee.{Callee}
 use Rattle.nodes.specs.declared.Callee.the-variants as callee
-use Rattle.nodes.specs.Nodes.{Body, item, declaredAt, itemsOf, outputOf, defInputs, shapeInputs, inputsOf, nth, fieldType, asArr, isFun, method, isPartlyFailed, segmentName, segmentRes}
+use Rattle.nodes.specs.Nodes.{Body, item, declaredAt, itemsOf, outputOf, defInputs, shapeInputs, inputsOf, nth, fieldType, asArr, method, isPartlyFailed, segmentName, segmentRes}
 use Rattle.record.specs.declared.Extra.{Extra}
 use Rattle.record.specs.declared.ErrorRow.{ErrorRow}
 use Rattle.record.specs.declared.Span.{Span}
@@ -70,6 +70,24 @@ Parts W (lam n o i) = W .type o × All (W .type) i
 Parts W err = Unit {0}
 Parts W div = Unit {0}
 
+-- document 01's new types: `var,V`, `array,E`, `ref,E`, `fn,D`, `inst,K`, `lambda,NODE,OUT,IN..`
+abbrev pub isMade : Shape → Bool
+isMade (var v) = true
+isMade (arr e) = true
+isMade (ref e) = true
+isMade (fn d) = true
+isMade (base (inst k)) = true
+isMade (lam n o i) = true
+isMade (base bool) = false
+isMade (base nil) = false
+isMade (base float) = false
+isMade (base double) = false
+isMade (base (uint w)) = false
+isMade (base (int w)) = false
+isMade (fun s o i) = false
+isMade err = false
+isMade div = false
+
 -- T holds of the type that `return` answers to and of RAW of each node
 pub record OwnTypes (T : ℕ → Type 0) (o : Own) : Type 0 where
   pub output : T (o .output)
@@ -90,13 +108,13 @@ pub record Placed (m k p : ℕ) : Type 0 where
   pub lower : p < m
 
 module _ (N : Counts) (W : Numbers) {A : Type 0} (Q : A → Type 0) where
-  -- from states of such types a program makes types of such types that are no function types and no variables, raises equations of such types, refuses as above,
+  -- from states of such types a program makes types of such types, of the forms of `isMade` but no variables, raises equations of such types, refuses as above,
   -- and answers what Q holds of
   unfoldable pub IsConfined : Walk A → Type 0
   IsConfined (done a) = Q a
   IsConfined (refuse k n) = Placed (N .nodes) k n
   IsConfined (draw k o f) = (r : ℕ) → W .type r → IsConfined (f r)
-  IsConfined (intern t f) = (isFun t ≡ false) × (asVar t ≡ none) × Parts W t × ((r : ℕ) → W .type r → IsConfined (f r))
+  IsConfined (intern t f) = (isMade t ≡ true) × (asVar t ≡ none) × Parts W t × ((r : ℕ) → W .type r → IsConfined (f r))
   IsConfined (equate n x y e f) = Placed (N .nodes) 12 n × Placed (N .nodes) 13 n × W .type x × W .type y × ((c : Bool) → IsConfined (f c))
   IsConfined (emit e p) = IsConfined p
   IsConfined (mark v p) = IsConfined p
@@ -305,7 +323,7 @@ module _ {N : Counts} {W : Numbers} where
   new-infer-var-confined k o = record { by = λ r v. v }
 
   -- a made type
-  intern-confined : (t : Shape) → isFun t ≡ false → asVar t ≡ none → Parts W t → Confined N W (W .type) (intern t done)
+  intern-confined : (t : Shape) → isMade t ≡ true → asVar t ≡ none → Parts W t → Confined N W (W .type) (intern t done)
   unfolding IsConfined
   intern-confined t e f p = record { by = (e, f, p, λ r v. v) }
 

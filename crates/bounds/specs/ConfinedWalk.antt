@@ -1,4 +1,4 @@
--- What a well-formed body runs behind its type lines is a program as Confined says: of types alone, without function types, refused with 10 to 13 at a node.
+-- What a well-formed body runs behind its type lines is a program as Confined says: of types alone, making types of the six forms, refused with 10 to 13 at a node.
 -- Assumes nothing.
 use mathlib.Core.Path.{_≡_, refl}
 use mathlib.Core.List.{List}

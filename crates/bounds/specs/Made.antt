@@ -1,12 +1,15 @@
--- The types and variables behind a well-formed body: the fixed types, one for each type line, then the made ones, whose inputs are at most one for each node. Assumes nothing.
+-- The types and variables behind a well-formed body: the fixed types, one for each type line, then the made ones, each of one of six forms, whose inputs are at most one
+-- for each node. Assumes nothing.
 use mathlib.Core.Path.{_≡_, refl, sym, ap, _∙_}
 use mathlib.Core.List.{List, [], _∷_, _++_, append-assoc}
+use mathlib.Core.Bool.{true}
 use Prim.Native.Nat.{ℕ, suc, zero, _+_, _*_, _≤_}
 use native.Mathlib.Omega.{arith}
 use lib.ListN.{length, drop, length-append, length-drop}
 use lib.Seq.{drop-append-seam}
 use Rattle.theory.specs.Rules.{Shape}
 use Rattle.theory.specs.Program.{run}
+use Rattle.theory.specs.Basics.{All}
 use Rattle.theory.specs.Demand.{Tables}
 use Rattle.theory.specs.Start.{start}
 use Rattle.theory.specs.Claims.{final-tables}
@@ -23,6 +26,7 @@ use Rattle.well_formed.specs.Good.{WellFormed}
 use Rattle.bounds.specs.Adds.{Larger}
 use Rattle.bounds.specs.Body.{nodes-cost, behind-types-adds}
 use Rattle.bounds.specs.Declared.{lineShape, declared, declared-length, body-behind}
+use Rattle.bounds.specs.Confined.{isMade}
 use Rattle.bounds.specs.Nesting.{body-rows}
 
 -- the declared types are the fixed ones and those of the lines
@@ -64,15 +68,21 @@ module _ (n : Counts) (rows cells : List ℕ) (own : Own) where
   made = drop (14 + n .types) (last .rows)
 
   module _ (w : WellFormed n rows cells) where
-    -- all types are the declared ones and the made ones
-    declared-made : last .rows ≡ declared rows cells (n .types) ++ made
-    declared-made =
+    -- the made types are the rows behind the declared ones
+    made-rest : made ≡ body-rows n rows cells w own .rest
+    made-rest =
         let m = body-rows n rows cells w own in
-        let e : made ≡ m .rest =
         ap (λ (k : ℕ). drop k (last .rows)) (sym (declared-length rows cells (n .types)))
         ∙ ap (λ (l : List Shape). drop (length (declared rows cells (n .types))) l) (m .rows)
-        ∙ drop-append-seam (declared rows cells (n .types)) (m .rest) in
-        m .rows ∙ ap (λ (l : List Shape). declared rows cells (n .types) ++ l) (sym e)
+        ∙ drop-append-seam (declared rows cells (n .types)) (m .rest)
+
+    -- all types are the declared ones and the made ones
+    declared-made : last .rows ≡ declared rows cells (n .types) ++ made
+    declared-made = body-rows n rows cells w own .rows ∙ ap (λ (l : List Shape). declared rows cells (n .types) ++ l) (sym made-rest)
+
+    -- each made type is of one of the six forms
+    pub made-forms : All (λ s. isMade s ≡ true) made
+    made-forms = rw made-rest (body-rows n rows cells w own .made)
 
     -- all types are the fixed ones, those of the lines and the made ones
     pub all-types : last .rows ≡ fixed-types ++ (tab (lineShape rows cells) (n .types) ++ made)

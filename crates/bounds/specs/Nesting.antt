@@ -1,4 +1,5 @@
--- Functions stand at most 4 deep in one another, in the tables behind the walk over a well-formed body and at each of its equations. Assumes nothing.
+-- A walk over a well-formed body adds rows of the six made forms alone, so functions stand at most 4 deep in one another, in the tables behind it and at each of its
+-- equations. Assumes nothing.
 use mathlib.Core.Path.{_≡_, refl, sym, ap, _∙_}
 use mathlib.Core.Logic.{inl, inr}
 use mathlib.Core.List.{List, [], _∷_, _++_, append-assoc, append-nil}
@@ -13,7 +14,7 @@ use lib.ListN.{length, List·getD-append}
 use lib.Seq.{getD-append-add}
 use Rattle.theory.specs.Rules.{Shape, base, var, arr, ref, fn, fun, lam, err, div, nil, Kind, Out, success, mismatch, kindOrder, refused12, refused13, dry, row}
 use Rattle.theory.specs.Program.{done, refuse, draw, intern, equate, emit, mark, read, write, clip, firstEqual, sane, drawn, appended, emitted, written, refused, marking, raised, pooled, internIf, interned, solved, react, run, _>>=_}
-use Rattle.theory.specs.Basics.{All, clash}
+use Rattle.theory.specs.Basics.{All, all-map, clash}
 use Rattle.theory.specs.Depth.{In, Pure, pure-base, pure-fn, pure-err, pure-div, pure-array, pure-function, Functions}
 use Rattle.theory.specs.Start.{start}
 use Rattle.type_table.specs.Sound.{fixed-types}
@@ -32,20 +33,20 @@ use Rattle.well_formed.specs.Good.{WellFormed, kindIn}
 use Rattle.well_formed.specs.Levels.{TypeIn, type-good, type-lower, fun-levels, part-levels}
 use Rattle.bounds.specs.Weights.{kind-by}
 use Rattle.bounds.specs.Declared.{lineShape, declared, declared-length, declared-row, declared-fixed, behindTypes, row-all, Line, array, function, instance-of, definition, line, types-declared, body-behind}
-use Rattle.bounds.specs.Confined.{IsConfined, Any, any-numbers, any-state, any-known}
+use Rattle.bounds.specs.Confined.{isMade, IsConfined, Any, any-numbers, any-state, any-known}
 use Rattle.bounds.specs.ConfinedWalk.{behind-types-confined}
 
--- ── tables that grow by no function type ──
+-- ── tables that grow by made types ──
 
--- r is l and then rows that are no function types
+-- r is l and then rows of the six made forms
 pub record More (l r : List Shape) : Type 0 where
   pub rest : List Shape
   pub rows : r ≡ l ++ rest
-  pub plain : All (λ s. isFun s ≡ false) rest
+  pub made : All (λ s. isMade s ≡ true) rest
 
 -- a table is itself
 more-same : (l : List Shape) → More l l
-more-same l = record { rest = []; rows = sym (append-nil l); plain = tt }
+more-same l = record { rest = []; rows = sym (append-nil l); made = tt }
 
 -- each of a list and one more
 all-more : (P : Shape → Type 0) (l : List Shape) (t : Shape) → All P l → P t → All P (l ++ t ∷ [])
@@ -53,11 +54,11 @@ all-more P [] t h p = (p, tt)
 all-more P (s ∷ l) t h p = (h .0, all-more P l t (h .1) p)
 
 -- one row more
-more-one : (l r : List Shape) (t : Shape) → More l r → isFun t ≡ false → More l (r ++ t ∷ [])
+more-one : (l r : List Shape) (t : Shape) → More l r → isMade t ≡ true → More l (r ++ t ∷ [])
 more-one l r t m e = record {
   rest = m .rest ++ t ∷ [];
   rows = ap (λ (q : List Shape). q ++ t ∷ []) (m .rows) ∙ append-assoc l (m .rest) (t ∷ []);
-  plain = all-more (λ s. isFun s ≡ false) (m .rest) t (m .plain) e;
+  made = all-more (λ s. isMade s ≡ true) (m .rest) t (m .made) e;
 }
 
 module _ (l : List Shape) where
@@ -67,7 +68,7 @@ module _ (l : List Shape) where
   drawn-more k o s m = more-one l (s .rows) (var (length (s .mem .binds))) m refl
 
   -- a made type
-  interned-more : (t : Shape) (s : State) → More l (s .rows) → isFun t ≡ false → More l ((interned t s) .1 .rows)
+  interned-more : (t : Shape) (s : State) → More l (s .rows) → isMade t ≡ true → More l ((interned t s) .1 .rows)
   unfolding interned appended
   interned-more t s m e = by (sane (length (s .rows)) t)
     where
@@ -79,7 +80,7 @@ module _ (l : List Shape) where
       by true = found (firstEqual 0 (s .rows) t)
       by false = m
 
-  -- a program that makes no function type
+  -- a program that makes types of these forms
   run-more : {A : Type 0} (N : Counts) (p : Walk A) → IsConfined N any-numbers Any p → (s : State) → More l (s .rows) → More l ((run p s) .1 .rows)
   unfolding run IsConfined emitted written refused marking raised
   run-more N (done a) f s m = m
@@ -131,7 +132,7 @@ module _ {A : Type 0} (P : State → Type 0) where
   AtEquations (read f) s = AtEquations (f s) s
   AtEquations (write o p) s = AtEquations p (written o s)
 
--- a program that makes no function type: what holds of every table that grew by none
+-- a program that makes types of these forms: what holds of every table that grew by such
 at-confined : {A : Type 0} (P : State → Type 0) (l : List Shape) → ((s : State) → More l (s .rows) → P s)
     → (N : Counts) (p : Walk A) → IsConfined N any-numbers Any p → (s : State) → More l (s .rows) → AtEquations P p s
 unfolding AtEquations IsConfined emitted written marking raised
@@ -228,6 +229,18 @@ types-silent rows cells k = each-silent 0 k _ (λ i. then-silent (type-of-line c
 
 -- ── functions in one another ──
 
+-- no made form is a function type
+made-no-fun : (s : Shape) → isMade s ≡ true → isFun s ≡ false
+made-no-fun (base b) e = refl
+made-no-fun (var v) e = refl
+made-no-fun (arr x) e = refl
+made-no-fun (ref x) e = refl
+made-no-fun (fn d) e = refl
+made-no-fun (fun s o i) e = clash (cc)
+made-no-fun (lam n o i) e = refl
+made-no-fun err e = refl
+made-no-fun div e = refl
+
 -- a type that no other is in
 isAlone : Shape → Bool
 isAlone (base b) = true
@@ -288,7 +301,7 @@ module _ (n : Counts) (rows cells : List ℕ) (w : WellFormed n rows cells) (l :
       ap (λ (q : List Shape). isFun (row q x)) (m .rows)
       ∙ ap (λ (y : ℕ). isFun (row (declared rows cells (n .types) ++ m .rest) y)) (sym e)
       ∙ ap isFun (getD-append-add (declared rows cells (n .types)) (m .rest) (x - (14 + n .types)) (base nil))
-      ∙ row-all (λ s. isFun s ≡ false) (m .rest) (m .plain) refl (x - (14 + n .types))
+      ∙ row-all (λ s. isFun s ≡ false) (m .rest) (all-map (λ s. isMade s ≡ true) (λ s. isFun s ≡ false) (m .rest) made-no-fun (m .made)) refl (x - (14 + n .types))
 
   -- a type in a line: a fixed type, or that of a lower line
   part-pure : (i j d : ℕ) → i < n .types → j < countIn rows i → kindIn rows i j ≡ LowType → ((x : ℕ) → TypeIn rows cells i j x → Pure l d (14 + x)) → Pure l d (valueIn cells (firstIn rows i + j))
@@ -362,7 +375,7 @@ module _ (n : Counts) (rows cells : List ℕ) (w : WellFormed n rows cells) (l :
 -- ── a body ──
 
 module _ (n : Counts) (rows cells : List ℕ) (w : WellFormed n rows cells) (own : Own) where
-  -- the types of a whole body are the declared ones, and then such as are no function types
+  -- the types of a whole body are the declared ones, and then types of the made forms
   pub body-rows : More (declared rows cells (n .types)) ((run (type-body n rows cells) (start fixed-types own)) .1 .rows)
   unfolding start
   body-rows =

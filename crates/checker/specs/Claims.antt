@@ -16,6 +16,8 @@ use Rattle.type_table.specs.declared.NodeId.{NodeId}
 use Rattle.forms.specs.declared.Fault.{Fault}
 use Rattle.body.specs.declared.Answer.the-variants as reading
 use Rattle.body.specs.Body.{most-bytes}
+use Rattle.bounds.specs.Confined.{isMade}
+use Rattle.tables.specs.Read.{madeAt}
 use Rattle.answers.specs.declared.Totals.{Totals}
 use Rattle.answers.specs.declared.Answer.{Answer}
 use Rattle.answers.specs.declared.Answer.the-variants as answer
@@ -76,6 +78,10 @@ module _ (s : List ℕ) (l : Lent) where
   -- all of a table past its used rows is zero
   pub zero-behind : (t : Totals) → result .answer ≡ answer.Checked t → Zero t (result .tables)
   zero-behind = demand.zero s l
+
+  -- each made type is of one of document 01's forms: `var,V`, `array,E`, `ref,E`, `fn,D`, `inst,K`, `lambda,NODE,OUT,IN..`
+  pub made-forms : (t : Totals) → result .answer ≡ answer.Checked t → (i : ℕ) → i < t .types → isMade (madeAt (result .tables .types) i) ≡ true
+  made-forms = demand.made-forms s l
 
   -- ── demand 3: the equations of the file and the bindings in the tables ──
 

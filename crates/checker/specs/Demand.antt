@@ -3,7 +3,8 @@ use mathlib.Core.Path.{_≡_, refl, sym, ap, subst, _∙_}
 use mathlib.Core.Logic.{_↔_}
 use mathlib.Core.List.{List, [], _∷_, _++_}
 use mathlib.Core.Option.{some}
-use Prim.Native.Nat.{ℕ}
+use mathlib.Core.Bool.{true}
+use Prim.Native.Nat.{ℕ, _<_}
 use native.Mathlib.Omega.{arith}
 use lib.ListN.{length, length-append}
 use Rattle.theory.specs.Program.{Equation}
@@ -15,7 +16,9 @@ use Rattle.body.specs.declared.Answer.the-variants as reading
 use Rattle.well_formed.specs.Good.{WellFormed}
 use Rattle.well_formed.specs.Zeros.{ZeroBehind}
 use Rattle.well_formed.specs.Claims as reader
+use Rattle.bounds.specs.Confined.{isMade}
 use Rattle.bounds.specs.Claims as walk
+use Rattle.tables.specs.Read.{madeAt}
 use Rattle.answers.specs.declared.Totals.{Totals}
 use Rattle.answers.specs.declared.Answer.the-variants as answer
 use Rattle.answers.specs.Lent.{Lent, totals}
@@ -24,7 +27,7 @@ use Rattle.checker.specs.File.{stateBy, stateOf, equationsIn, equationsO
 use Rattle.checker.specs.Handed.{typesHeld, kindsHeld, bindsHeld}
 use Rattle.checker.specs.Answers.{lastOf, tablesOf, read-well-formed, On0, on-0}
 use Rattle.checker.specs.Limits.{Limited, limited, Zero, zero-behind}
-use Rattle.checker.specs.Back.{types-held, kinds-held, binds-held}
+use Rattle.checker.specs.Back.{types-held, forms-held, kinds-held, binds-held}
 
 -- a list without elements
 no-elements : {A : Type 0} (l : List A) → length l ≡ 0 → l ≡ []
@@ -84,6 +87,10 @@ module _ (s : List ℕ) (l : Lent) (t : Totals) (e : checkOf s l .answer ≡ ans
   -- the types that are handed back
   types : typesHeld t (checkOf s l .tables) ≡ lastOf s (t .declared) .rows
   types = handed (λ v u. typesHeld v u ≡ lastOf s (t .declared) .rows) (types-held (t .declared) (readingOf s .rows) (readingOf s .cells) good l)
+
+  -- each made type that is handed back is of one of the six forms
+  pub made-forms : (i : ℕ) → i < t .types → isMade (madeAt (checkOf s l .tables .types) i) ≡ true
+  made-forms = handed (λ v u. (i : ℕ) → i < v .types → isMade (madeAt (u .types) i) ≡ true) (forms-held (t .declared) (readingOf s .rows) (readingOf s .cells) good l)
 
   -- the kinds of the variables
   kinds : kindsHeld t (checkOf s l .tables) ≡ lastOf s (t .declared) .kinds

@@ -28,10 +28,9 @@ use Rattle.tables.specs.Types.{inputs-from, shapeInputs, typeRows, typeTable, i
 use Rattle.tables.specs.Errors.{errorTable}
 use Rattle.tables.specs.Log.{equationRow, logTable}
 use Rattle.tables.specs.Read.{madeAt}
-use Rattle.tables.specs.Back.{made-back}
 use Rattle.answers.specs.declared.Totals.{Totals}
 use Rattle.answers.specs.Lent.{Lent, firstMade, madeTypes, totals, filled}
-use Rattle.checker.specs.Back.{cell-padded}
+use Rattle.checker.specs.Back.{cell-padded, made-held}
 
 -- ── limits ──
 
@@ -141,7 +140,6 @@ module _ (n : Counts) (rows cells : List ℕ) (w : WellFormed n rows cells) (z :
   unfolding filled
   zero-behind =
       let e : length (last .rows) - firstMade n ≡ length made = sym (length-drop (firstMade n) (last .rows)) in
-      let m : tab (madeAt (typeTable (length (l .types)) made)) (length (last .rows) - firstMade n) ≡ made = rw e (made-back (length (l .types)) made rows-room) in
       record {
         declared = record {
           cells-zero = λ j h. cell-padded (length (l .cells)) cells j ∙ z .cells-zero j h;
@@ -151,7 +149,7 @@ module _ (n : Counts) (rows cells : List ℕ) (w : WellFormed n rows cells) (z :
         nodes = λ i h. behind (length (l .nodes)) (nodeTable (last .own) (n .nodes)) i (omega (arith, node-length (last .own) (n .nodes)));
         vars = λ i h. behind (length (l .vars)) (varTable last) i (omega (arith, var-length last));
         types = λ i h b. types-behind i (omega (arith, e)) b;
-        inputs = λ i h. inputs-behind i (rw m at h);
+        inputs = λ i h. inputs-behind i (rw (made-held n rows cells w l) at h);
         errors = λ i h. behind (length (l .errors)) (errorTable (last .errs)) i (omega (arith, error-length (last .errs)));
         log = λ i h. behind (length (l .log)) (logTable (length (l .log)) (last .log)) i (omega (arith, log-length (length (l .log)) (last .log)));
         memory = λ i. zero-at (length (l .memory)) i;

@@ -4,17 +4,25 @@ use mathlib.Core.Path.{_≡_, refl, sym, ap, _∙_}
 use mathlib.Core.List.{List, _++_, append-nil}
 use mathlib.Core.Bool.{Bool, true, false, cond}
 use Prim.Native.Nat.{ℕ, _≤_, _<_}
-use lib.ListN.{length, drop}
+use native.Mathlib.Omega.{arith}
+use lib.ListN.{length, drop, getD}
 use lib.Dec.{ltb}
 use borrow.Author.Tests.{lt-ltb, le-ltb}
+use Rattle.theory.specs.Rules.{Shape, base, var, arr, ref, fn, fun, lam, err, div, bool, nil, float, double, uint, int, inst}
+use Rattle.theory.specs.Basics.{clash}
+use Rattle.lex.specs.Text.{text}
+use Rattle.bounds.specs.Confined.{isMade}
+use Rattle.tables.specs.Read.{madeAt}
+use Rattle.answers.specs.declared.Totals.{Totals}
 use Rattle.answers.specs.declared.Answer.{Answer}
 use Rattle.answers.specs.declared.Answer.the-variants as answer
 use Rattle.answers.specs.Lent.{Lent, answerNumber, answerPlace}
 use Rattle.checker.specs.Check.{checkOf}
-use Rattle.output.specs.Output.{zeros}
+use Rattle.checker.specs.Claims.{made-forms}
+use Rattle.output.specs.Output.{zeros, newline}
 use Rattle.report_text.specs.declared.Reported.{Reported}
 use Rattle.report_text.specs.declared.Reported.the-variants.{Written, NoRoom}
-use Rattle.report_text.specs.Lines.{answerLine}
+use Rattle.report_text.specs.Lines.{answerLine, typeText, typeLine}
 use Rattle.report_text.specs.Written.{textOf}
 use Rattle.report.specs.Report.{Told, told, reportText, reportOf}
 
@@ -26,6 +34,27 @@ alone answer.TooLong nodes vars types errors h = append-nil _
 alone answer.ShortTable nodes vars types errors h = append-nil _
 alone (answer.Refused x l) nodes vars types errors h = append-nil _
 alone (answer.Declined k n) nodes vars types errors h = append-nil _
+
+-- the line of a made type has no `-` behind `type=`
+not-dash : (x : Shape) → isMade x ≡ true → text "type=" ++ typeText x ++ newline ≡ text "type=-" ++ newline → ⊥
+not-dash x m e = by x m (ap (λ (q : List ℕ). getD q 5 0) e)
+  where
+    by : (x : Shape) → isMade x ≡ true → getD (text "type=" ++ typeText x ++ newline) 5 0 ≡ 45 → ⊥
+    by (var v) m e = omega arith
+    by (arr y) m e = omega arith
+    by (ref y) m e = omega arith
+    by (fn d) m e = omega arith
+    by (base (inst k)) m e = omega arith
+    by (lam n o i) m e = omega arith
+    by (base bool) m e = clash (cc)
+    by (base nil) m e = clash (cc)
+    by (base float) m e = clash (cc)
+    by (base double) m e = clash (cc)
+    by (base (uint w)) m e = clash (cc)
+    by (base (int w)) m e = clash (cc)
+    by (fun s o i) m e = clash (cc)
+    by err m e = clash (cc)
+    by div m e = clash (cc)
 
 module _ (s : List ℕ) (l : Lent) (o : List ℕ) where
   -- the promise of `report` holds of one answer, tables and output, and of no other
@@ -50,6 +79,11 @@ module _ (s : List ℕ) (l : Lent) (o : List ℕ) where
       by : (b : Bool) → cond b (told (NoRoom (checkOf s l .answer)) (checkOf s l .tables) (zeros o)) (told (Written (checkOf s l .answer) (length (reportText s l))) (checkOf s l .tables) (reportText s l ++ drop (length (reportText s l)) o)) .tables ≡ checkOf s l .tables
       by true = refl
       by false = refl
+
+  -- no `type` line is `type=-`: each has one of document 01's forms
+  pub no-dash-type : (t : Totals) → checkOf s l .answer ≡ answer.Checked t → (i : ℕ) → i < t .types → typeLine (checkOf s l .tables .types) i ≡ text "type=-" ++ newline → ⊥
+  unfolding typeLine
+  no-dash-type t e i h = not-dash (madeAt (checkOf s l .tables .types) i) (made-forms s l t e i h)
 
   -- the text of a refusal is the `answer` line alone
   pub refusal-alone : (answerNumber (checkOf s l .answer) ≡ 0 → ⊥) → reportText s l ≡ answerLine (answerNumber (checkOf s l .answer)) (answerPlace (checkOf s l .answer))
