@@ -1,5 +1,5 @@
 // Turns a body that stands in one line of text into its bytes: `/` is a line feed, `\hh` a byte, `{N:T}` and `{N+S:T}` a repetition.
-// The comment lines at the top of the program `check_run`'s `stdin` say it in full.
+// The comment lines at the top of the program `replay`'s `stdin` say it in full.
 ghost use Prim.Native.Nat.{_≤_};
 
 // Room for more bytes than a body may have.

@@ -8,7 +8,7 @@ mod wrong;
 
 use cases::Case;
 use original::{THREAD_STACK, Want};
-use rules::tables::Lent;
+use rules::tables::{Left, Lent};
 use std::io::{Read, Write};
 use std::process::ExitCode;
 
@@ -16,18 +16,18 @@ const USAGE: &str = "\
 usage: reference report [FILE]        what the original gives for a body, in document 01's words; FILE is standard input if absent
        reference source [FILE]        what the source does with it where it is let go on behind a ring and panics stay panics
        reference rules [FILE]         what document 01 gives for it, by the second program
-       reference tables [FILE]        what check_run prints for it behind its name, by the second program
+       reference tables [FILE]        the same, and behind it counts, marks, equations and the hash of all cells
        reference entries [FILE]       each entry of `unify` in the original: node, expected, got
        reference families             the families of generated bodies
        reference body SEED INDEX      a generated body
        reference many SEED COUNT      the first COUNT bodies of SEED through both programs: counts, and what differs
-       reference stream WHAT SEED COUNT   the same bodies one behind the other, WHAT being text, original, rules or tables:
-                                      as check_run reads them, what the original and the rules give, and what check_run prints
+       reference stream WHAT SEED COUNT   the same bodies one behind the other, WHAT being text, original, rules or samples:
+                                      as read_run reads them, what the original and the rules give, and as replay reads them
        reference test FILE..          the cases of these files through both programs
        reference replay DIR           the recorded samples in DIR through the rules, against what is recorded
        reference wrong LIST WORKSPACE DIR   wrong versions of the rules' program on the recorded samples
        reference sample DIR LENT FILE..   writes the recorded samples to DIR, with the cases of these files; those of LENT are
-                                      about the lengths of the lent tables
+                                      about the lengths of the lent tables and the output
 ";
 
 fn main() -> ExitCode {
@@ -58,7 +58,7 @@ fn command(args: &[&str]) -> Result<bool, String> {
         ["report", file @ ..] => show(cases::report(&bytes(file)?).text()),
         ["source", file @ ..] => show(walk(&bytes(file)?, Want { source: true, entries: false }).0),
         ["rules", file @ ..] => show(rules::report(&bytes(file)?)),
-        ["tables", file @ ..] => show(rules::tables::text(&bytes(file)?, &Lent::of(""))),
+        ["tables", file @ ..] => show(Left::of(&bytes(file)?, &Lent::of("")).lines()),
         ["entries", file @ ..] => show(walk(&bytes(file)?, Want { source: false, entries: true }).1),
         ["families"] => show(generate::describe()),
         ["body", seed, index] => {
@@ -120,7 +120,7 @@ fn stream(what: &str, seed: u64, count: u64) -> Result<bool, String> {
             "text" => format!("{head} {}\n", text::flat(&bytes)),
             "original" => format!("== {head}\n{}", cases::report(&bytes).text()),
             "rules" => format!("== {head}\n{}", rules::report(&bytes)),
-            "tables" => format!("== {head}\n{}", rules::tables::text(&bytes, &Lent::of(&head))),
+            "samples" => sample::lines(&head, &text::flat(&bytes), &Left::of(&bytes, &Lent::of(&head))),
             _ => return Err(USAGE.to_string()),
         };
         out.write_all(text.as_bytes()).map_err(|e| e.to_string())?;
@@ -153,14 +153,14 @@ fn test(files: &[&str]) -> Result<bool, String> {
 }
 
 fn replay(dir: &str) -> Result<bool, String> {
-    let file = |name: &str| std::fs::read_to_string(format!("{dir}/{name}")).map_err(|e| format!("{dir}/{name}: {e}"));
-    let (bodies, recorded) = (file("stdin")?, file("stdout")?);
-    let mut recorded = recorded.split("== ").skip(1);
+    let file = format!("{dir}/stdin");
+    let samples = std::fs::read_to_string(&file).map_err(|e| format!("{file}: {e}"))?;
+    let mut lines = samples.lines().filter(|l| !l.is_empty() && !l.starts_with('#'));
     let (mut same, mut different) = (0, 0);
-    for line in bodies.lines().filter(|l| !l.is_empty() && !l.starts_with('#')) {
+    while let Some(line) = lines.next() {
         let (name, text) = line.split_once(' ').unwrap_or((line, ""));
         let bytes = text::expand(text).ok_or_else(|| format!("{name}: not a text"))?;
-        if recorded.next() == Some(&format!("{name}\n{}", rules::tables::text(&bytes, &Lent::of(name)))) {
+        if lines.next() == Some(&Left::of(&bytes, &Lent::of(name)).line()) {
             same += 1;
         } else {
             different += 1;
@@ -168,7 +168,7 @@ fn replay(dir: &str) -> Result<bool, String> {
         }
     }
     println!("{same} the same, {different} different");
-    Ok(different == 0 && recorded.next().is_none())
+    Ok(different == 0)
 }
 
 fn write(dir: &str, lent: &[Case], cases: &[Case]) -> Result<bool, String> {

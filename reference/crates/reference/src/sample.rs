@@ -4,7 +4,7 @@ use crate::cases::Case;
 use crate::{features, text};
 use generate::Family;
 use original::{Branch, Outcome, Want};
-use rules::tables::Lent;
+use rules::tables::{Left, Lent};
 use std::collections::{BTreeMap, BTreeSet};
 use std::ops::RangeInclusive;
 
@@ -17,6 +17,12 @@ const SMALL: [usize; 3] = [200, 300, 400];
 const EACH: (usize, usize) = (12, 600);
 /// Nodes of larger bodies, and how many of them are taken.
 const LARGER: [(RangeInclusive<usize>, usize); 3] = [(60..=120, 12), (200..=500, 4), (1_024..=1_024, 1)];
+/// Bytes of a report, and the outputs that it is written to: the first body with such a report is taken for each.
+const LONG: [(RangeInclusive<usize>, &[usize]); 3] = [
+    (65_536..=65_536, &[65_536, 65_535, 0]),
+    (65_537..=65_537, &[65_537, 65_536]),
+    (66_000..=80_000, &[131_072, 65_536]),
+];
 
 /// A recorded body.
 struct Line {
@@ -53,47 +59,100 @@ pub fn files(lent: &[Case], cases: &[Case]) -> Result<Vec<(&'static str, String)
     }
     let by_hand = judged.len();
     choose(&mut seen, &mut judged);
+    let long = long()?;
     println!("judged by the original: {by_hand} by hand, {} generated", judged.len() - by_hand);
-    println!("by document 01 alone: {}, about lengths of tables: {}", rest.len(), lent.len());
+    println!("by document 01 alone: {}", rest.len());
+    println!("about lengths: {} by hand, {} with long reports", lent.len(), long.len());
     let missing = missing(&seen);
     if !missing.is_empty() {
         return Err(format!("missing: {}", missing.join(", ")));
     }
 
-    let (mut stdin, mut stdout) = (HEAD.to_string(), String::new());
-    let mut names = BTreeSet::new();
-    for (i, l) in judged.iter().chain(&rest).enumerate() {
-        if !names.insert(&l.name) {
-            return Err(format!("{} is there twice", l.name));
-        }
-        if i == judged.len() {
-            stdin.push_str(SECOND);
-        }
-        stdin.push_str(&format!("{} {}\n", l.name, l.text));
-        stdout.push_str(&format!("== {}\n{}", l.name, recorded(&l.name, &l.bytes, &l.report)?));
+    let mut samples = Samples { stdin: HEAD.to_string(), names: BTreeSet::new() };
+    for l in &judged {
+        samples.add(&l.name, &l.text, recorded(l)?)?;
     }
-    stdin.push_str(THIRD);
+    samples.stdin.push_str(SECOND);
+    for l in &rest {
+        samples.add(&l.name, &l.text, recorded(l)?)?;
+    }
+    samples.stdin.push_str(THIRD);
     for case in lent {
-        stdin.push_str(&format!("{} {}\n", case.name, case.text));
-        stdout.push_str(&format!("== {}\n{}", case.name, lent_text(case)?));
+        samples.add(&case.name, &case.text, by_hand_left(case)?)?;
     }
-    Ok(vec![("stdin", stdin), ("stdout", stdout)])
+    samples.stdin.push_str(FOURTH);
+    for l in &long {
+        samples.add(&l.name, &l.text, recorded(l)?)?;
+    }
+    let stdout = format!("agree={}\n", samples.names.len());
+    Ok(vec![("stdin", samples.stdin), ("stdout", stdout)])
 }
 
-/// The report of a body, and behind it what `check_run` prints besides, by the rules; they have to give this report too.
-fn recorded(name: &str, bytes: &[u8], report: &str) -> Result<String, String> {
-    let text = rules::tables::text(bytes, &Lent::of(name));
-    match text.strip_prefix(report) {
-        Some(rest) if rest.starts_with("read=") || rest.starts_with("rest=") => Ok(text),
-        _ => Err(format!("{name}: the rules have another report")),
+/// The samples so far.
+struct Samples {
+    stdin: String,
+    names: BTreeSet<String>,
+}
+
+impl Samples {
+    fn add(&mut self, name: &str, text: &str, left: Left) -> Result<(), String> {
+        if !self.names.insert(name.to_string()) {
+            return Err(format!("{name} is there twice"));
+        }
+        self.stdin.push_str(&lines(name, text, &left));
+        Ok(())
     }
 }
 
-/// What `check_run` prints of a case about the lengths of tables, by the rules; but for the hash it has to be what is expected by hand.
-fn lent_text(case: &Case) -> Result<String, String> {
-    let text = rules::tables::text(&case.bytes, &Lent::of(&case.name));
-    let shown: String = text.lines().filter(|l| !l.starts_with("hash=")).map(|l| format!("{l}\n")).collect();
-    if shown == case.expected { Ok(text) } else { Err(format!("{}: the rules give\n{shown}", case.name)) }
+/// A sample: the name and the body, then what `report` has to leave.
+pub fn lines(name: &str, text: &str, left: &Left) -> String {
+    format!("{name} {text}\n{}\n", left.line())
+}
+
+/// What `report` leaves of a body, by the rules; it has to be the report that is recorded, or 9 where the output is too short for it.
+fn recorded(line: &Line) -> Result<Left, String> {
+    let left = Left::of(&line.bytes, &Lent::of(&line.name));
+    let output = line.name.split_once('@').map_or(Ok(65_536), |(_, bytes)| bytes.parse()).map_err(|_| "no number")?;
+    let answer = line.report.lines().next().unwrap_or("");
+    let nine = format!("answer=9,-\n{answer}\n");
+    let expected = if line.report.len() <= output { &line.report } else { &nine };
+    if left.text != *expected {
+        return Err(format!("{}: the rules have another report", line.name));
+    }
+    Ok(left)
+}
+
+/// What `report` leaves of a case about lengths, by the rules; but for the hash it has to be what is expected by hand.
+fn by_hand_left(case: &Case) -> Result<Left, String> {
+    let left = Left::of(&case.bytes, &Lent::of(&case.name));
+    let shown: String = left.lines().lines().filter(|l| !l.starts_with("hash=")).map(|l| format!("{l}\n")).collect();
+    if shown == case.expected { Ok(left) } else { Err(format!("{}: the rules give\n{shown}", case.name)) }
+}
+
+/// Generated bodies with long reports, of which the original gives the same, for outputs with and without room.
+fn long() -> Result<Vec<Line>, String> {
+    let mut lines = Vec::new();
+    let mut left: Vec<_> = LONG.iter().collect();
+    for index in 0..LOOKED_AT {
+        let (family, bytes) = generate::body(SEED, index);
+        let Ok(b) = body::read(&bytes) else { continue };
+        // A node is good for some 100 bytes of text at most.
+        if left.is_empty() || b.nodes.len() < 600 {
+            continue;
+        }
+        let report = rules::check(&b).text;
+        let Some(found) = left.iter().position(|(range, _)| range.contains(&report.len())) else { continue };
+        let (_, outputs) = left.remove(found);
+        if !matches!(original::run(&b, Want::default()).outcome, Outcome::Report(text) if text == report) {
+            return Err(format!("body {index}: the original has another report"));
+        }
+        for output in *outputs {
+            let name = format!("{}-{index}@{output}", family.name());
+            let (text, report, bytes) = (text::flat(&bytes), report.clone(), bytes.clone());
+            lines.push(Line { name, text, bytes, report, occurs: BTreeSet::new() });
+        }
+    }
+    if left.is_empty() { Ok(lines) } else { Err("no body with a report long enough".to_string()) }
 }
 
 /// The report of a body that the original judges, if it is wanted; what occurs in it is counted then.
@@ -200,35 +259,37 @@ fn missing(seen: &Seen) -> Vec<String> {
 }
 
 const HEAD: &str = "\
-# Recorded bodies: one line each, a name, a blank, and the body's text up to the end of the line. A line that starts with # is a
-# comment, and an empty line is nothing. Any number of lines may stand here.
+# Recorded samples, two lines each: a name, a blank, and the body's text up to the end of the line; then what `report` has to leave.
+# Before a sample a line that starts with # is a comment, and an empty line is nothing. Any number of samples may stand here.
 #
-# In a text
+# In the text of a body
 #   /          is a line feed
 #   \\hh        is the byte with this hexadecimal number, in two signs of 0 to 9 and a to f
 #   {N:T}      is the text T, N times; in T the sign # is the number of the turn, counted from 0; T has no braces
 #   {N+S:T}    is the same, the turns counted from S; N and S are at most 65,535
 # and any other byte is itself; outside of a repetition # is the number 0. A name with nothing behind it is the empty body. Room is for
-# 65,600 bytes of a line and for 65,600 bytes of a body; what goes beyond is dropped.
+# 200,000 bytes of a sample and for 65,600 bytes of a body; what goes beyond is dropped.
 #
-# Printed for each body:
-#   == and its name
-#   answer= and so on: the report of document 01, however long, from the tables of nodes, variables, made types and errors
-# and where the answer is 0
-#   read= and the counts of types, defs, insts, binds and nodes
-#   marked= and the variables with a negation mark
-#   equations= and their number, then for each that the log has whole equation= with expected, got, and 0 for success or its cause
-#   hash= and a number made of all cells of the tables of nodes, variables, made types, errors and equations, one after the other:
-#   it starts as 1, and with each cell it becomes 31 times itself plus the cell, modulo 4,294,967,291
-# and last
-#   rest=zero if, with the answer 0, every cell behind the used rows of these tables and all of the memory is zero, and the two tables of
-#   the file are those that the reader alone leaves in tables of its own; and if, with 3 to 13, every cell of every table is zero
-#   rest=same if, with 1 or 2, every cell of every table is as it was: before each body all are filled with 7
-#   rest=WRONG otherwise
+# In the second line stand
+#   with the answer 0, with commas between them, a hash, the counts of types, defs, insts, binds and nodes, and that of equations; with
+#   any other answer -. The hash is made of all cells of the tables of nodes, variables, made types, errors and equations, one after the
+#   other: it starts as 1, and with each cell it becomes 31 times itself plus the cell, modulo 4,294,967,291
+#   a blank, and the text of the report, / for a line feed; where the output is too short, answer=9,-/ and the answer line of the check
 #
-# If the sign before the last of a name is !, the last says what is lent: R, C, N, V, T, E, M the table of rows, cells, nodes,
+# If the sign before the last of a name is !, the last says which tables are lent: R, C, N, V, T, E, M the table of rows, cells, nodes,
 # variables, made types, errors, memory one cell too short; L every table eight cells longer; 0, 2, 3, 4 a log of so many cells. Else
-# every table has the length it has to have, and the log 6,144 cells.
+# every table has the length it has to have, and the log 6,144 cells. Behind that @ and a number are the bytes of output, at most
+# 131,072; without it they are 65,536.
+#
+# Of a sample that does not agree its name is printed, and what is wrong in it:
+#   answer     the answer that is returned is not that of the text
+#   text       the text or its length, or that there is room or none
+#   bytes behind the text   they are not as before; on 9: the output is not zero throughout
+#   tables     the hash or the counts
+#   rest       with the answer 0: a cell behind the used rows of the five tables, or one of the memory, is not zero, or the two tables of
+#              the file are not those that the reader alone leaves in tables of its own; with 3 to 13: a cell of a table is not zero; with
+#              1 and 2: a cell of a table is not as before. Before each body every cell and every byte of the output is 7
+# and last how many samples agree.
 #
 # This file is made by reference/samples, with stdout. First come the bodies that the original checker judges: those by hand, then
 # generated ones, named by their family and index.
@@ -240,5 +301,9 @@ const SECOND: &str = "\
 ";
 
 const THIRD: &str = "\
-# Lengths of the lent tables: reference/lent.txt.
+# Lengths of the lent tables and of the output: reference/lent.txt.
+";
+
+const FOURTH: &str = "\
+# Reports of 65,536 bytes and more, of generated bodies that the original checker judges.
 ";

@@ -1,5 +1,5 @@
-//! What `typereport` prints, as an executable reading of document 01: `check` walks an accepted body, `report` reads any bytes. What
-//! `check_run` prints is more: `tables::text`.
+//! What `typereport` prints, as an executable reading of document 01: `check` walks an accepted body, `report` reads any bytes. What a
+//! recorded sample has is more: `tables::Left`.
 pub mod finish;
 pub mod print;
 pub mod tables;

@@ -1,4 +1,5 @@
-//! The lent tables as `check` leaves them, and what `check_run` prints of them. docs/TABLES.md has the tables, cell by cell.
+//! The lent tables and the output as `report` leaves them, and how a recorded sample has them. docs/TABLES.md has the tables, cell by
+//! cell.
 use crate::types::Type;
 use crate::unify::{Kind, Outcome, Variable};
 use crate::walk::{Equation, ErrorRow, Extra, Refused, Spanned, Walk};
@@ -14,64 +15,124 @@ const LONGER: usize = 8;
 /// Where the inputs begin in the table of made types.
 const INPUTS_FROM: usize = 20_480;
 
-/// What is lent, by the byte behind a `!` in front of a name's last byte: a table one cell too short, all of them longer, a short log.
-pub enum Lent {
-    /// Cells of the tables of nodes, variables, made types, errors and equations.
-    Lengths([usize; 5]),
-    TooShort,
+/// What is lent, by the marks in the name of a body: behind `!` a table one cell too short, all of them longer, or a short log;
+/// behind `@` the bytes of output.
+pub struct Lent {
+    /// Cells of the tables of nodes, variables, made types, errors and equations; none where a table is too short.
+    lengths: Option<[usize; 5]>,
+    output: usize,
 }
 
 impl Lent {
     /// What the name of a body says.
     pub fn of(name: &str) -> Lent {
+        let (name, output) = match name.split_once('@') {
+            Some((name, bytes)) => (name, bytes.parse().expect("a number behind @")),
+            None => (name, crate::MOST_OUTPUT),
+        };
         let mut lengths = LENGTHS;
         match name.as_bytes() {
-            [.., b'!', b'R' | b'C' | b'N' | b'V' | b'T' | b'E' | b'M'] => return Lent::TooShort,
+            [.., b'!', b'R' | b'C' | b'N' | b'V' | b'T' | b'E' | b'M'] => return Lent { lengths: None, output },
             [.., b'!', b'L'] => lengths = LENGTHS.map(|cells| cells + LONGER),
             [.., b'!', digit @ (b'0' | b'2' | b'3' | b'4')] => lengths[4] = usize::from(digit - b'0'),
             _ => {}
         }
-        Lent::Lengths(lengths)
+        Lent { lengths: Some(lengths), output }
     }
 }
 
-/// What `check_run` prints of a body behind its name.
-pub fn text(bytes: &[u8], lent: &Lent) -> String {
-    if bytes.len() > MOST_BYTES {
-        return print::answer(1, None) + "rest=same\n";
+/// What `report` leaves of a body.
+pub struct Left {
+    /// The text in the output; on 9 the line of 9, and behind it the answer line of the check.
+    pub text: String,
+    /// The tables, where the answer of the check is 0.
+    tables: Option<Tables>,
+}
+
+/// What the tables hold and a report does not show.
+struct Tables {
+    /// How many types, defs, insts, binds and nodes the file has.
+    rows: [usize; 5],
+    marked: Vec<usize>,
+    equations: usize,
+    /// The equations that the log has whole.
+    log: Vec<usize>,
+    hash: u64,
+}
+
+impl Left {
+    /// What is left of a body on what is lent.
+    pub fn of(bytes: &[u8], lent: &Lent) -> Left {
+        let (text, tables) = check(bytes, lent.lengths);
+        if text.len() <= lent.output {
+            return Left { text, tables };
+        }
+        let answer = text.lines().next().unwrap_or("");
+        Left { text: format!("{}{answer}\n", print::answer(9, None)), tables }
     }
-    let Lent::Lengths(lengths) = lent else {
-        return print::answer(2, None) + "rest=same\n";
+
+    /// The text, and where the answer is 0 the counts of the file's rows, the marked variables, the equations that the log has whole
+    /// and the hash of all cells.
+    pub fn lines(&self) -> String {
+        let Some(tables) = &self.tables else {
+            return self.text.clone();
+        };
+        let mut text = format!("{}read={}\nmarked={}\n", self.text, joined(&tables.rows), joined(&tables.marked));
+        text += &format!("equations={}\n", tables.equations);
+        for row in tables.log.chunks(3) {
+            text += &format!("equation={}\n", joined(row));
+        }
+        text + &format!("hash={}\n", tables.hash)
+    }
+
+    /// The second line of a sample: the hash, the counts of the file's rows and of the equations, or `-`; and the text.
+    pub fn line(&self) -> String {
+        let text = self.text.replace('\n', "/");
+        match &self.tables {
+            Some(tables) => format!("{},{},{} {text}", tables.hash, joined(&tables.rows), tables.equations),
+            None => format!("- {text}"),
+        }
+    }
+}
+
+/// Numbers with commas between them.
+fn joined(numbers: &[usize]) -> String {
+    numbers.iter().map(|number| number.to_string()).collect::<Vec<_>>().join(",")
+}
+
+/// The report, however long, or the answer line alone; and the tables on 0. Without lengths a table is too short.
+fn check(bytes: &[u8], lengths: Option<[usize; 5]>) -> (String, Option<Tables>) {
+    if bytes.len() > MOST_BYTES {
+        return (print::answer(1, None), None);
+    }
+    let Some(lengths) = lengths else {
+        return (print::answer(2, None), None);
     };
     match body::read(bytes) {
         Ok(body) => {
             let mut walk = Walk::new(&body);
             match finish::run(&mut walk) {
-                Ok(finals) => checked(&walk, &finals, lengths),
-                Err(Refused { answer, place }) => print::answer(answer, Some(place)) + "rest=zero\n",
+                Ok(finals) => (print::report(&walk, &finals), Some(tables(&walk, &finals, &lengths))),
+                Err(Refused { answer, place }) => (print::answer(answer, Some(place)), None),
             }
         }
-        Err(refusal) => print::answer(refusal.answer, refusal.line) + "rest=zero\n",
+        Err(refusal) => (print::answer(refusal.answer, refusal.line), None),
     }
 }
 
-/// The report, the counts of the file's rows, the marked variables, the equations that the log has whole, the hash of all cells.
-fn checked(walk: &Walk<'_>, finals: &[Option<usize>], lengths: &[usize; 5]) -> String {
-    let mut text = print::report(walk, finals);
+/// The tables of a body that was checked.
+fn tables(walk: &Walk<'_>, finals: &[Option<usize>], lengths: &[usize; 5]) -> Tables {
     let body = walk.body;
-    let rows = [body.types.len(), body.defs.len(), body.insts.len(), body.binds.len(), body.nodes.len()];
-    text += &format!("read={}\n", rows.map(|count| count.to_string()).join(","));
     let marked = walk.variables.rows.iter().enumerate().filter(|(_, row)| row.marked);
-    let marked: Vec<String> = marked.map(|(number, _)| number.to_string()).collect();
-    text += &format!("marked={}\n", marked.join(","));
-    text += &format!("equations={}\n", walk.equations.len());
     let log = log(walk, lengths[4]);
-    for row in log.chunks(3) {
-        text += &format!("equation={},{},{}\n", row[0], row[1], row[2]);
+    let cells = [nodes(walk, finals), variables(walk), made_types(walk), errors(walk), log.clone()];
+    Tables {
+        rows: [body.types.len(), body.defs.len(), body.insts.len(), body.binds.len(), body.nodes.len()],
+        marked: marked.map(|(number, _)| number).collect(),
+        equations: walk.equations.len(),
+        log,
+        hash: hash(cells.into_iter().zip(lengths).flat_map(|(table, length)| padded(table, *length))),
     }
-    let tables = [nodes(walk, finals), variables(walk), made_types(walk), errors(walk), log];
-    let cells = tables.into_iter().zip(lengths).flat_map(|(table, length)| padded(table, *length));
-    text + &format!("hash={}\nrest=zero\n", hash(cells))
 }
 
 /// "on 0 all of a table past its used rows is zero".
