@@ -1,13 +1,13 @@
 -- What the test of the lengths of the lent tables tells. Assumes nothing.
 use mathlib.Core.Path.{_≡_, refl, sym, _∙_}
-use mathlib.Core.List.{List, []}
+use mathlib.Core.List.{List}
 use mathlib.Core.Bool.{Bool, true, false, _||_, false≢true}
 use Prim.Native.Nat.{ℕ, _≤_}
 use lib.ListN.{length}
 use lib.Dec.{ltb}
 use borrow.Author.Tests.{ltb-false}
 use Rattle.body.specs.Body.{rows-length, cells-length}
-use Rattle.answers.specs.Lent.{Lent, lent, nodes-length, vars-length, types-length, errors-length, memory-length, tooShort}
+use Rattle.answers.specs.Lent.{Lent, nodes-length, vars-length, types-length, errors-length, memory-length, tooShort}
 
 -- tables that are long enough
 pub record Long (l : Lent) : Type 0 where
@@ -25,7 +25,7 @@ or-false true b e = absurd (false≢true (sym e))
 or-false false b e = (refl, e)
 
 -- a test of a length that is false
-long : (n : ℕ) (t : List ℕ) → ltb (length t) n ≡ false → n ≤ length t
+long : {A : Type 0} (n : ℕ) (t : List A) → ltb (length t) n ≡ false → n ≤ length t
 long n t = ltb-false (length t) n
 
 -- no table is below its length
@@ -48,12 +48,18 @@ not-short l e =
       errors = long errors-length (l .errors) (g .1);
     }
 
--- the test of all lengths, whatever the log
-pub short-is : (l : Lent) (b c : Bool) → b ≡ tooShort (lent (l .rows) (l .cells) (l .nodes) (l .vars) (l .types) (l .errors) [] (l .memory)) → b ≡ c → tooShort l ≡ c
-unfolding tooShort
-short-is l b c e f = sym e ∙ f
+-- the test of all lengths, by the number of the error rows
+unfoldable pub tooFew : List ℕ → List ℕ → List ℕ → List ℕ → List ℕ → ℕ → List ℕ → Bool
+tooFew rows cells nodes vars types n memory =
+    ltb (length rows) rows-length
+    || (ltb (length cells) cells-length
+    || (ltb (length memory) memory-length
+    || (ltb (length nodes) nodes-length
+    || (ltb (length vars) vars-length
+    || (ltb (length types) types-length
+    || ltb n errors-length)))))
 
--- no table is below its length, by that test
-pub long-tables : (rows cells nodes vars types errors memory : List ℕ) (b : Bool) → b ≡ tooShort (lent rows cells nodes vars types errors [] memory) → b ≡ false
-    → Long (lent rows cells nodes vars types errors [] memory)
-long-tables rows cells nodes vars types errors memory b e f = not-short (lent rows cells nodes vars types errors [] memory) (sym e ∙ f)
+-- it is the test of the tables
+pub short-is : (l : Lent) (n : ℕ) (b c : Bool) → length (l .errors) ≡ n → b ≡ tooFew (l .rows) (l .cells) (l .nodes) (l .vars) (l .types) n (l .memory) → b ≡ c → tooShort l ≡ c
+unfolding tooShort tooFew
+short-is l n b c k e f = rw k (sym e ∙ f)

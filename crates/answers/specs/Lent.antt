@@ -13,7 +13,8 @@ use Rattle.tables.specs.Rows.{padded, zeros}
 use Rattle.tables.specs.Nodes.{nodeTable}
 use Rattle.tables.specs.Vars.{varTable}
 use Rattle.tables.specs.Types.{typeTable}
-use Rattle.tables.specs.Errors.{errorTable}
+use Rattle.errors.specs.declared.ErrorRow.{ErrorRow}
+use Rattle.errors.specs.Rows.{errorRows, paddedRows, zeroRows, rowIn, filledTo}
 use Rattle.tables.specs.Log.{logTable}
 use Rattle.answers.specs.declared.Totals.{Totals}
 use Rattle.answers.specs.declared.Answer.{Answer}
@@ -32,20 +33,20 @@ pub record Lent : Type 0 where
   pub vars : List ℕ
   -- the made types
   pub types : List ℕ
-  -- the errors
-  pub errors : List ℕ
+  -- the errors, one row each
+  pub errors : List ErrorRow
   -- the equations, as far as it reaches
   pub log : List ℕ
   -- the working memory
   pub memory : List ℕ
 
 -- these tables
-abbrev pub lent : List ℕ → List ℕ → List ℕ → List ℕ → List ℕ → List ℕ → List ℕ → List ℕ → Lent
+abbrev pub lent : List ℕ → List ℕ → List ℕ → List ℕ → List ℕ → List ErrorRow → List ℕ → List ℕ → Lent
 lent rows cells nodes vars types errors log memory = record { rows = rows; cells = cells; nodes = nodes; vars = vars; types = types; errors = errors; log = log; memory = memory }
 
 -- every table zero throughout
 unfoldable pub cleared : Lent → Lent
-cleared l = lent (zeros (l .rows)) (zeros (l .cells)) (zeros (l .nodes)) (zeros (l .vars)) (zeros (l .types)) (zeros (l .errors)) (zeros (l .log)) (zeros (l .memory))
+cleared l = lent (zeros (l .rows)) (zeros (l .cells)) (zeros (l .nodes)) (zeros (l .vars)) (zeros (l .types)) (zeroRows (l .errors)) (zeros (l .log)) (zeros (l .memory))
 
 -- the lengths: 1,024 nodes and 1,024 variables of six cells each
 abbrev pub nodes-length : ℕ
@@ -58,9 +59,9 @@ vars-length = 6144
 abbrev pub types-length : ℕ
 types-length = 21504
 
--- 4,096 errors of nine cells
+-- 4,096 errors, a row each
 abbrev pub errors-length : ℕ
-errors-length = 36864
+errors-length = 4096
 
 -- the memory of the walk, with 2,048 equations
 abbrev pub memory-length : ℕ
@@ -128,6 +129,48 @@ filled n rows cells s l =
     (padded (length (l .nodes)) (nodeTable (s .own) (n .nodes)))
     (padded (length (l .vars)) (varTable s))
     (typeTable (length (l .types)) (madeTypes n s))
-    (padded (length (l .errors)) (errorTable (s .errs)))
+    (paddedRows (length (l .errors)) (errorRows (s .errs)))
     (padded (length (l .log)) (logTable (length (l .log)) (s .log)))
     (zeros (l .memory))
+
+-- ── the errors and the memory, behind the other tables ──
+
+-- how many error rows are in use
+abbrev pub errorsUsed : Answer → ℕ
+errorsUsed (answer.Checked t) = t .errors
+errorsUsed answer.TooLong = 0
+errorsUsed answer.ShortTable = 0
+errorsUsed (answer.Refused x l) = 0
+errorsUsed (answer.Declined k n) = 0
+
+-- how many of n rows are written: none on 1 and 2, which change no table
+abbrev pub errorsEnd : Answer → ℕ → ℕ
+errorsEnd (answer.Checked t) n = n
+errorsEnd answer.TooLong n = 0
+errorsEnd answer.ShortTable n = 0
+errorsEnd (answer.Refused x l) n = n
+errorsEnd (answer.Declined k n) r = r
+
+-- the table of errors e, handed back from the memory m in which the walk ended
+abbrev pub errorsHanded : Answer → List ErrorRow → List ℕ → List ErrorRow
+errorsHanded a e m = filledTo e (rowIn m (errorsUsed a)) (errorsEnd a (length e))
+
+-- the memory m at the end: zero throughout, but on 1 and 2
+abbrev pub memoryEnded : Answer → List ℕ → List ℕ
+memoryEnded (answer.Checked t) m = zeros m
+memoryEnded answer.TooLong m = m
+memoryEnded answer.ShortTable m = m
+memoryEnded (answer.Refused x l) m = zeros m
+memoryEnded (answer.Declined k n) m = zeros m
+
+-- the tables l with the errors e
+abbrev pub lentWith : List ErrorRow → Lent → Lent
+lentWith e l = lent (l .rows) (l .cells) (l .nodes) (l .vars) (l .types) e (l .log) (l .memory)
+
+-- the tables u with the errors e handed back from their memory, and the memory at the end
+abbrev pub handedWith : Answer → List ErrorRow → Lent → Lent
+handedWith a e u = lent (u .rows) (u .cells) (u .nodes) (u .vars) (u .types) (errorsHanded a e (u .memory)) (u .log) (memoryEnded a (u .memory))
+
+-- every table but the errors and the memory zero throughout
+unfoldable pub emptied : Lent → Lent
+emptied l = lent (zeros (l .rows)) (zeros (l .cells)) (zeros (l .nodes)) (zeros (l .vars)) (zeros (l .types)) (l .errors) (zeros (l .log)) (l .memory)

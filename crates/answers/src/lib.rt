@@ -2,21 +2,22 @@
 ghost use mathlib.Core.Path.{_≡_};
 ghost use Prim.Native.Nat.{_+_, _-_, _≤_};
 ghost use mathlib.Core.List.{[]};
-ghost use Rattle.answers.specs.Lent.{lent, cleared, tooShort};
+ghost use Rattle.answers.specs.Lent.{lent, emptied, errorsUsed, errorsEnd, memoryEnded};
+ghost use Rattle.answers.specs.Lengths.{tooFew};
 ghost use Rattle.answers.specs.Parts.{counted, Filled, HandedBack};
 use forms::Fault;
 use record::Record;
 use refs::Counts;
 use type_table::NodeId;
 
-// The lengths of the lent tables: 1,024 nodes and 1,024 variables of six cells, 4,096 made types of five and 1,024 inputs, 4,096 errors of nine.
+// The lengths of the lent tables: 1,024 nodes and 1,024 variables of six cells, 4,096 made types of five and 1,024 inputs, 4,096 errors of a row each.
 pub const NODES: usize = 6144;
 
 pub const VARS: usize = 6144;
 
 pub const TYPES: usize = 21504;
 
-pub const ERRORS: usize = 36864;
+pub const ERRORS: usize = 4096;
 
 // The memory of the walk, with room for the 2,048 equations that a body can raise.
 pub const MEMORY: usize = 96162;
@@ -53,17 +54,17 @@ pub enum Walked {
 
 // ── lengths ──
 
-// Some lent table is below its length.
+// Some lent table is below its length, the errors by the number of their rows.
 pub fn too_short(
     rows: &[u16],
     cells: &[u16],
     nodes: &[u16],
     vars: &[u16],
     types: &[u16],
-    errors: &[u16],
+    errors: usize,
     memory: &[u16],
 ) -> bool
-    ensures { λ r. ⌜ r ≡ tooShort (lent (now (rows .entry)) (now (cells .entry)) (now (nodes .entry)) (now (vars .entry)) (now (types .entry)) (now (errors .entry)) [] (now (memory .entry))) ⌝ }
+    ensures { λ r. ⌜ r ≡ tooFew (now (rows .entry)) (now (cells .entry)) (now (nodes .entry)) (now (vars .entry)) (now (types .entry)) errors (now (memory .entry)) ⌝ }
 {
     if rows.len() < body::ROWS {
         return true;
@@ -83,7 +84,7 @@ pub fn too_short(
     if types.len() < TYPES {
         return true;
     }
-    errors.len() < ERRORS
+    errors < ERRORS
 }
 
 // ── tables ──
@@ -132,10 +133,9 @@ fn fill(
     nodes: &mut [u16],
     vars: &mut [u16],
     types: &mut [u16],
-    errors: &mut [u16],
     log: &mut [u16],
 )
-    ensures { λ _. ⌜ Filled (now (m .entry)) c n (now (nodes .entry)) (now (vars .entry)) (now (types .entry)) (now (errors .entry)) (now (log .entry)) (now (nodes .exit)) (now (vars .exit)) (now (types .exit)) (now (errors .exit)) (now (log .exit)) ⌝ }
+    ensures { λ _. ⌜ Filled (now (m .entry)) c n (now (nodes .entry)) (now (vars .entry)) (now (types .entry)) (now (log .entry)) (now (nodes .exit)) (now (vars .exit)) (now (types .exit)) (now (log .exit)) ⌝ }
 {
     let k = n.nodes;
     let d = n.types;
@@ -143,34 +143,29 @@ fn fill(
     tables::fill_vars(m, c, vars);
     let f = first_made(d);
     tables::fill_types(m, c, f, types);
-    tables::fill_errors(m, c, errors);
     tables::fill_log(m, c, log);
 }
 
-// Every table zero throughout.
+// Every table but the errors and the memory zero throughout.
 fn clear(
     rows: &mut [u16],
     cells: &mut [u16],
     nodes: &mut [u16],
     vars: &mut [u16],
     types: &mut [u16],
-    errors: &mut [u16],
     log: &mut [u16],
-    memory: &mut [u16],
 )
-    ensures { λ _. ⌜ (lent (now (rows .exit)) (now (cells .exit)) (now (nodes .exit)) (now (vars .exit)) (now (types .exit)) (now (errors .exit)) (now (log .exit)) (now (memory .exit))) ≡ cleared (lent (now (rows .entry)) (now (cells .entry)) (now (nodes .entry)) (now (vars .entry)) (now (types .entry)) (now (errors .entry)) (now (log .entry)) (now (memory .entry))) ⌝ }
+    ensures { λ _. ⌜ (lent (now (rows .exit)) (now (cells .exit)) (now (nodes .exit)) (now (vars .exit)) (now (types .exit)) [] (now (log .exit)) []) ≡ emptied (lent (now (rows .entry)) (now (cells .entry)) (now (nodes .entry)) (now (vars .entry)) (now (types .entry)) [] (now (log .entry)) []) ⌝ }
 {
     tables::clear(rows);
     tables::clear(cells);
     tables::clear(nodes);
     tables::clear(vars);
     tables::clear(types);
-    tables::clear(errors);
     tables::clear(log);
-    tables::clear(memory);
 }
 
-// The tables and the answer, by what reading and typing gave.
+// The tables but the errors, and the answer, by what reading and typing gave. The memory is as it was: the errors are handed back from it.
 pub fn hand_back(
     w: Walked,
     rows: &mut [u16],
@@ -178,27 +173,66 @@ pub fn hand_back(
     nodes: &mut [u16],
     vars: &mut [u16],
     types: &mut [u16],
-    errors: &mut [u16],
     log: &mut [u16],
-    memory: &mut [u16],
+    memory: &[u16],
 ) -> Answer
-    ensures { λ r. ⌜ HandedBack w (lent (now (rows .entry)) (now (cells .entry)) (now (nodes .entry)) (now (vars .entry)) (now (types .entry)) (now (errors .entry)) (now (log .entry)) (now (memory .entry))) r (lent (now (rows .exit)) (now (cells .exit)) (now (nodes .exit)) (now (vars .exit)) (now (types .exit)) (now (errors .exit)) (now (log .exit)) (now (memory .exit))) ⌝ }
+    ensures { λ r. ⌜ HandedBack w (lent (now (rows .entry)) (now (cells .entry)) (now (nodes .entry)) (now (vars .entry)) (now (types .entry)) [] (now (log .entry)) (now (memory .entry))) r (lent (now (rows .exit)) (now (cells .exit)) (now (nodes .exit)) (now (vars .exit)) (now (types .exit)) [] (now (log .exit)) (now (memory .entry))) ⌝ }
 {
     match w {
         Walked::Typed(n, c) => {
-            fill(memory, c, n, nodes, vars, types, errors, log);
-            tables::clear(memory);
+            fill(memory, c, n, nodes, vars, types, log);
             let t = count(n, c);
             Answer::Checked(t)
         }
         Walked::Declined(k, p) => {
-            clear(rows, cells, nodes, vars, types, errors, log, memory);
+            clear(rows, cells, nodes, vars, types, log);
             Answer::Declined(k, p)
         }
         Walked::Refused(f, l) => {
-            clear(rows, cells, nodes, vars, types, errors, log, memory);
+            clear(rows, cells, nodes, vars, types, log);
             Answer::Refused(f, l)
         }
         Walked::Unread => Answer::ShortTable,
+    }
+}
+
+// ── the errors and the memory ──
+
+// How many error rows are in use.
+pub fn errors_used(a: Answer) -> u16
+    ensures { λ r. ⌜ r ≡ errorsUsed a ⌝ }
+{
+    match a {
+        Answer::Checked(t) => t.errors,
+        Answer::TooLong => 0,
+        Answer::ShortTable => 0,
+        Answer::Refused(f, l) => 0,
+        Answer::Declined(k, p) => 0,
+    }
+}
+
+// How many rows of a table of n rows are written: none on 1 and 2.
+pub fn errors_end(a: Answer, n: usize) -> usize
+    ensures { λ r. ⌜ r ≡ errorsEnd a n ⌝ }
+{
+    match a {
+        Answer::Checked(t) => n,
+        Answer::TooLong => 0,
+        Answer::ShortTable => 0,
+        Answer::Refused(f, l) => n,
+        Answer::Declined(k, p) => n,
+    }
+}
+
+// The memory at the end of a check: zero throughout, but on 1 and 2.
+pub fn end_memory(memory: &mut [u16], a: Answer)
+    ensures { λ _. ⌜ now (memory .exit) ≡ memoryEnded a (now (memory .entry)) ⌝ }
+{
+    match a {
+        Answer::Checked(t) => tables::clear(memory),
+        Answer::TooLong => {}
+        Answer::ShortTable => {}
+        Answer::Refused(f, l) => tables::clear(memory),
+        Answer::Declined(k, p) => tables::clear(memory),
     }
 }

@@ -9,7 +9,7 @@ use borrow.Author.Needs.{needs}
 use lib.ListN.{length, length-append}
 use Rattle.theory.specs.Rules.{Shape, var, Kind, Out, success, mismatch, kindOrder, refused12, refused13, dry, Res}
 use Rattle.theory.specs.Program.{firstEqual, sane, drawn, appended, emitted, written, refused, marking, raised, pooled, internIf, interned, react, run, _>>=_, goOn, run-bind}
-use Rattle.record.specs.declared.ErrorRow.{ErrorRow}
+use Rattle.record.specs.declared.TypingError.{TypingError}
 use Rattle.record.specs.Own.{Own}
 use Rattle.record.specs.Steps.{State, Walk}
 use Rattle.record.specs.Encodes.{inputCount, inputTotal}
@@ -123,7 +123,7 @@ unfolding interned
 interned-larger t s = intern-if-larger (sane (length (s .rows)) t) t s
 
 -- one error more
-pub emitted-larger : (e : ErrorRow) (s : State) → Larger (cost 0 0 0 1 0) s (emitted e s)
+pub emitted-larger : (e : TypingError) (s : State) → Larger (cost 0 0 0 1 0) s (emitted e s)
 unfolding emitted
 emitted-larger e s = record { vars = omega arith; rows = omega arith; inputs = omega arith; errors = omega arith; equations = omega arith }
 
@@ -148,7 +148,7 @@ unfolding raised
 raised-larger e g r s = record { vars = omega arith; rows = omega arith; inputs = omega arith; errors = omega arith; equations = omega arith }
 
 -- an equation that is answered emits at most one error
-react-larger : (p : ℕ) (o : Out) (f : Out → ErrorRow) (s : State) → Larger (cost 0 0 0 1 0) s ((react p o f (λ c t. (some c, t)) s) .1)
+react-larger : (p : ℕ) (o : Out) (f : Out → TypingError) (s : State) → Larger (cost 0 0 0 1 0) s ((react p o f (λ c t. (some c, t)) s) .1)
 react-larger p success f s = larger-within (search needs) (same-larger s)
 react-larger p mismatch f s = emitted-larger (f mismatch) s
 react-larger p kindOrder f s = emitted-larger (f kindOrder) s
@@ -157,7 +157,7 @@ react-larger p refused13 f s = larger-within (search needs) (refused-larger 13 p
 react-larger p dry f s = larger-within (search needs) (refused-larger 12 p s)
 
 -- an equation is one more, and at most one error
-pub equated-larger : (p e g : ℕ) (r : Res) (f : Out → ErrorRow) (s : State) → Larger (cost 0 0 0 1 1) s ((react p (r .0) f (λ c t. (some c, t)) (raised e g r s)) .1)
+pub equated-larger : (p e g : ℕ) (r : Res) (f : Out → TypingError) (s : State) → Larger (cost 0 0 0 1 1) s ((react p (r .0) f (λ c t. (some c, t)) (raised e g r s)) .1)
 equated-larger p e g r f s = larger-trans (raised-larger e g r s) (react-larger p (r .0) f (raised e g r s))
 
 -- ── programs ──

@@ -6,7 +6,7 @@ use Prim.Native.Nat.{ℕ}
 use lib.ListN.{length}
 use Rattle.theory.specs.Rules.{Shape, Out, success, mismatch, kindOrder, refused12, refused13, dry, Pair}
 use Rattle.theory.specs.Program.{done, refuse, draw, intern, equate, emit, mark, read, write, clip, firstEqual, sane, drawn, appended, emitted, written, refused, marking, raised, pooled, internIf, interned, solved, react, run}
-use Rattle.record.specs.declared.ErrorRow.{ErrorRow}
+use Rattle.record.specs.declared.TypingError.{TypingError}
 use Rattle.record.specs.Steps.{State, Walk}
 
 -- there is no refusal where there is an answer, else there is one
@@ -32,7 +32,7 @@ interned-stop t s = by (sane (length (s .rows)) t)
     by false = refl
 
 -- what follows an equation
-react-told : {A : Type 0} (n : ℕ) (o : Out) (e : Out → ErrorRow) (g : Bool → State → Option A × State) (s : State) → s .stop ≡ none → ((c : Bool) (t : State) → t .stop ≡ none → Told (g c t)) → Told (react n o e g s)
+react-told : {A : Type 0} (n : ℕ) (o : Out) (e : Out → TypingError) (g : Bool → State → Option A × State) (s : State) → s .stop ≡ none → ((c : Bool) (t : State) → t .stop ≡ none → Told (g c t)) → Told (react n o e g s)
 unfolding emitted refused
 react-told n success e g s h again = again true s h
 react-told n mismatch e g s h again = again false (emitted (e mismatch) s) h

@@ -28,7 +28,7 @@ use Rattle.nodes.specs.declared.Callee.{Callee}
 use Rattle.nodes.specs.declared.Callee.the-variants as callee
 use Rattle.nodes.specs.Nodes.{Body, item, declaredAt, itemsOf, outputOf, defInputs, shapeInputs, inputsOf, nth, fieldType, asArr, method, isPartlyFailed, segmentName, segmentRes}
 use Rattle.record.specs.declared.Extra.{Extra}
-use Rattle.record.specs.declared.ErrorRow.{ErrorRow}
+use Rattle.record.specs.declared.TypingError.{TypingError}
 use Rattle.record.specs.declared.Span.{Span}
 use Rattle.record.specs.Own.{Own, typed, marked, resolved}
 use Rattle.record.specs.Steps.{State, Walk, Step, orNil, change, set-node-type, set-extra, set-final, node-type, shape-of, all-types, output, drawn-by, new-infer-var, array-of, ref-to, fn-def, instance, paramType, make-lambda, mark-var, error, equation, for-each}
@@ -268,7 +268,7 @@ module _ {N : Counts} {W : Numbers} where
     test-confined false P K = K
 
     -- an error, and then an answer
-    pub error-then : (e : ErrorRow) (a : A) → Q a → Confined N W Q (_>>=_ (error e) (λ u. done a))
+    pub error-then : (e : TypingError) (a : A) → Q a → Confined N W Q (_>>=_ (error e) (λ u. done a))
     unfolding IsConfined error _>>=_
     error-then e a q = record { by = q }
 
@@ -338,12 +338,12 @@ module _ {N : Counts} {W : Numbers} where
   ref-to-confined e v = intern-confined (ref e) refl refl v
 
   -- an error
-  error-confined : (e : ErrorRow) → Confined N W Any (error e)
+  error-confined : (e : TypingError) → Confined N W Any (error e)
   unfolding IsConfined error
   error-confined e = record { by = tt }
 
   -- an equation
-  equation-confined : (n x y : ℕ) (e : ErrorRow) → n < N .nodes → W .type x → W .type y → Confined N W Any (equation n x y e)
+  equation-confined : (n x y : ℕ) (e : TypingError) → n < N .nodes → W .type x → W .type y → Confined N W Any (equation n x y e)
   unfolding IsConfined equation
   equation-confined n x y e h v u = record { by = (record { least = omega arith; most = omega arith; lower = h }, record { least = omega arith; most = omega arith; lower = h }, v, u, λ c. tt) }
 
@@ -394,12 +394,12 @@ module _ {N : Counts} {W : Numbers} where
     -- ── the rules that type no other node ──
 
     -- an equation, and then a type
-    pub equate-for-confined : (n x y : ℕ) (e : ErrorRow) (t : ℕ) → n < N .nodes → W .type x → W .type y → W .type t → Confined N W (W .type) (rule.equate-for n x y e t)
+    pub equate-for-confined : (n x y : ℕ) (e : TypingError) (t : ℕ) → n < N .nodes → W .type x → W .type y → W .type t → Confined N W (W .type) (rule.equate-for n x y e t)
     unfolding rule.equate-for
     equate-for-confined n x y e t h v u q = then-confined _ (equation-confined n x y e h v u) (λ c k. done-confined t q)
 
     -- an equation alone
-    pub equate-on-confined : (n x y : ℕ) (e : ErrorRow) → n < N .nodes → W .type x → W .type y → Confined N W Any (rule.equate-on n x y e)
+    pub equate-on-confined : (n x y : ℕ) (e : TypingError) → n < N .nodes → W .type x → W .type y → Confined N W Any (rule.equate-on n x y e)
     unfolding rule.equate-on
     equate-on-confined n x y e h v u = then-confined _ (equation-confined n x y e h v u) (λ c k. done-confined tt tt)
 

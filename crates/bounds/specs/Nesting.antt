@@ -24,7 +24,7 @@ use Rattle.refs.specs.Refs.{formIn, firstIn, countIn, levelsIn, valueIn}
 use Rattle.nodes.specs.declared.TypeRow.{TypeRow}
 use Rattle.nodes.specs.declared.TypeRow.the-variants as row·T
 use Rattle.nodes.specs.Nodes.{numbersFrom, typeRowAt, isFun}
-use Rattle.record.specs.declared.ErrorRow.{ErrorRow}
+use Rattle.record.specs.declared.TypingError.{TypingError}
 use Rattle.record.specs.Own.{Own}
 use Rattle.record.specs.Steps.{State, Walk, Step, array-of, fn-def, instance, make-function, for-each}
 use Rattle.resolve.specs.Resolve.{type-of-line, declare-type, declare-types, bodyWith, type-body}
@@ -108,7 +108,7 @@ module _ (l : List Shape) where
 -- ── at each equation ──
 
 -- what K says of the state behind an equation, by its answer
-abbrev pub Behind : Out → (Out → ErrorRow) → (Bool → State → Type 0) → State → Type 0
+abbrev pub Behind : Out → (Out → TypingError) → (Bool → State → Type 0) → State → Type 0
 Behind success e K s = K true s
 Behind mismatch e K s = K false (emitted (e mismatch) s)
 Behind kindOrder e K s = K false (emitted (e kindOrder) s)

@@ -10,7 +10,7 @@ use Rattle.theory.specs.Program.{done, refuse, draw, intern, equate, emit, mark
 use Rattle.theory.specs.Start.{start}
 use Rattle.type_table.specs.Sound.{fixed-types}
 use Rattle.refs.specs.declared.Counts.{Counts}
-use Rattle.record.specs.declared.ErrorRow.{ErrorRow}
+use Rattle.record.specs.declared.TypingError.{TypingError}
 use Rattle.record.specs.Own.{Own}
 use Rattle.record.specs.Steps.{State, Walk}
 use Rattle.resolve.specs.Resolve.{bodyWith, type-body}
@@ -26,7 +26,7 @@ PlacedBy N none = Unit {0}
 PlacedBy N (some r) = Placed N (r .0) (r .1)
 
 -- what follows an equation
-react-placed : {A : Type 0} (N n : ℕ) (o : Out) (e : Out → ErrorRow) (g : Bool → State → Option A × State) (s : State) → Placed N 12 n → Placed N 13 n → PlacedBy N (s .stop)
+react-placed : {A : Type 0} (N n : ℕ) (o : Out) (e : Out → TypingError) (g : Bool → State → Option A × State) (s : State) → Placed N 12 n → Placed N 13 n → PlacedBy N (s .stop)
     → ((c : Bool) (t : State) → PlacedBy N (t .stop) → PlacedBy N ((g c t) .1 .stop)) → PlacedBy N ((react n o e g s) .1 .stop)
 unfolding emitted refused
 react-placed N n success e g s p q h again = again true s h

@@ -11,7 +11,7 @@ use Rattle.nodes.specs.declared.BinOp.{BinOp}
 use Rattle.nodes.specs.declared.UnOp.{UnOp}
 use Rattle.nodes.specs.declared.UnOp.the-variants as un
 use Rattle.nodes.specs.Nodes.{asArr}
-use Rattle.record.specs.declared.ErrorRow.{ErrorRow}
+use Rattle.record.specs.declared.TypingError.{TypingError}
 use Rattle.record.specs.Steps.{drawn-by, error}
 use Rattle.rules.specs.Rules as rule
 use Rattle.bounds.specs.Adds.{cost, nothing, Adds, adds-within, adds-any, then, nothing-then, then-nothing}
@@ -20,17 +20,17 @@ use Rattle.bounds.specs.Steps.{one-var, one-row, one-error, one-equation
 -- ── equations and errors ──
 
 -- an equation, and then a type
-pub equate-for-adds : (n x y : ℕ) (e : ErrorRow) (t : ℕ) → Adds one-equation (rule.equate-for n x y e t)
+pub equate-for-adds : (n x y : ℕ) (e : TypingError) (t : ℕ) → Adds one-equation (rule.equate-for n x y e t)
 unfolding rule.equate-for
 equate-for-adds n x y e t = then-nothing _ (equation-adds n x y e) (λ c. done-adds t)
 
 -- an equation alone
-pub equate-on-adds : (n x y : ℕ) (e : ErrorRow) → Adds one-equation (rule.equate-on n x y e)
+pub equate-on-adds : (n x y : ℕ) (e : TypingError) → Adds one-equation (rule.equate-on n x y e)
 unfolding rule.equate-on
 equate-on-adds n x y e = then-nothing _ (equation-adds n x y e) (λ c. done-adds tt)
 
 -- an error, and then an answer
-pub error-then : {A : Type 0} (e : ErrorRow) (a : A) → Adds one-error (_>>=_ (error e) (λ u. done a))
+pub error-then : {A : Type 0} (e : TypingError) (a : A) → Adds one-error (_>>=_ (error e) (λ u. done a))
 error-then e a = then-nothing _ (error-adds e) (λ u. done-adds a)
 
 -- ── operators ──

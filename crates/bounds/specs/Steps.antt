@@ -12,7 +12,7 @@ use lib.Dec.{ltb}
 use Rattle.theory.specs.Rules.{Shape, Kind, inst, base, arr, ref, fn, fun, lam}
 use Rattle.theory.specs.Program.{clip, done, refuse, intern, run, solved}
 use Rattle.record.specs.declared.Extra.{Extra}
-use Rattle.record.specs.declared.ErrorRow.{ErrorRow}
+use Rattle.record.specs.declared.TypingError.{TypingError}
 use Rattle.record.specs.Own.{Own, typed, marked, resolved}
 use Rattle.record.specs.Steps.{Walk, Step, change, set-node-type, set-extra, set-final, node-type, shape-of, all-types, output, new-infer-var, array-of, ref-to, fn-def, instance, paramType, make-lambda, make-function, mark-var, error, caused, equation, for-each}
 use Rattle.record.specs.Encodes.{inputCount}
@@ -163,12 +163,12 @@ make-function-adds a o is = record {
 }
 
 -- an error
-pub error-adds : (e : ErrorRow) → Adds one-error (error e)
+pub error-adds : (e : TypingError) → Adds one-error (error e)
 unfolding run error
 error-adds e = record { larger = λ s. emitted-larger e s }
 
 -- an equation
-pub equation-adds : (n x y : ℕ) (e : ErrorRow) → Adds one-equation (equation n x y e)
+pub equation-adds : (n x y : ℕ) (e : TypingError) → Adds one-equation (equation n x y e)
 unfolding run equation
 equation-adds n x y e = record {
   larger = λ s.

@@ -31,18 +31,21 @@ use Rattle.resolve.specs.Body.{last-state, BodyTyped, TypedBy}
 use Rattle.well_formed.specs.Good.{WellFormed}
 use Rattle.well_formed.specs.Claims.{when-1, when-2, well-formed-on-0}
 use Rattle.bounds.specs.Claims.{typed-in-memory, never-full, equations-bound, made-count, made-inputs}
+use Rattle.errors.specs.declared.ErrorRow.{ErrorRow}
+use Rattle.errors.specs.Rows.{rowIn, filledTo}
+use Rattle.errors.specs.Filling.{filled-state, filled-none}
 use Rattle.tables.specs.Rows.{padded, zeros, cellsOf}
 use Rattle.tables.specs.Types.{shapeInputs, inputsOf}
 use Rattle.answers.specs.declared.Answer.{Answer}
 use Rattle.answers.specs.declared.Answer.the-variants as answer
 use Rattle.answers.specs.declared.Walked.{Walked}
 use Rattle.answers.specs.declared.Walked.the-variants as walked
-use Rattle.answers.specs.Lent.{Lent, lent, cleared, tooShort, held, madeTypes, totals, filled}
+use Rattle.answers.specs.Lent.{Lent, lent, cleared, tooShort, held, madeTypes, totals, filled, emptied, lentWith, handedWith}
 use Rattle.checker.specs.Check.{typed, readingOf, checkOf}
 use Rattle.checker.specs.Answers.{read-well-formed}
 use Rattle.answers.specs.Lengths.{Long, not-short}
 use Rattle.answers.specs.Parts.{counted, Filled, HandedAs, HandedBack}
-use Rattle.checker.specs.Parts.{Declining, ReadAs, WalkRead, WalkedAs, WalkedIn, FileAs, CellsWalked, FileWalked}
+use Rattle.checker.specs.Parts.{Declining, ReadAs, WalkRead, WalkedAs, WalkedIn, FileAs, CellsWalked, FileWalked, TablesChecked}
 
 -- ── a body that was typed ──
 
@@ -88,13 +91,14 @@ module _ (n : Counts) (rows cells : List ℕ) (w : WellFormed n rows cells) (l :
 
   -- the tables that were filled are those of the state in which the body ends
   tables-filled : (m : List ℕ) (c : Record) (u : Lent) → length m ≡ length (l .memory) → u .rows ≡ padded (length (l .rows)) rows → u .cells ≡ padded (length (l .cells)) cells → u .memory ≡ zeros (l .memory)
-      → Encodes m c last → Filled m c n (l .nodes) (l .vars) (l .types) (l .errors) (l .log) (u .nodes) (u .vars) (u .types) (u .errors) (u .log) → u ≡ filled n rows cells last l
+      → u .errors ≡ filledTo (l .errors) (rowIn m (c .errors)) (length (l .errors)) → Encodes m c last
+      → Filled m c n (l .nodes) (l .vars) (l .types) (l .log) (u .nodes) (u .vars) (u .types) (u .log) → u ≡ filled n rows cells last l
   unfolding filled
-  tables-filled m c u size x y z e f =
+  tables-filled m c u size x y z k e f =
       let a = f .nodes-filled .fills last e (w .limited .nodes, omega (arith, long .nodes, w .limited .nodes)) in
       let b = f .vars-filled .fills last e (omega (arith, fits .vars, long .vars)) in
       let d = f .types-filled (w .limited .types) .fills last e (omega (arith, made-count n rows cells w (fnLine rows cells .output .0)), omega (arith, inputs-fit, w .limited .nodes, long .types)) in
-      let g = f .errors-filled .fills last e (omega (arith, fits .errors, long .errors)) in
+      let g = k ∙ filled-state m c last (l .errors) e (omega (arith, fits .errors, long .errors)) in
       let h = f .log-filled .fills last e (omega (arith, equations-bound n rows cells w (fnLine rows cells .output .0), w .limited .nodes, size, long .memory)) in
       rw (← x, ← y, ← a, ← b, ← d, ← g, ← h, ← z)
 
@@ -163,16 +167,16 @@ module _ (s rows cells m : List ℕ) (a : Reading) (rows′ cells′ : List ℕ)
 
 -- ── a file ──
 
-module _ (s : List ℕ) (l : Lent) where
+module _ (s : List ℕ) (n : ℕ) (l : Lent) where
   -- 1
-  pub check-long : most-bytes < length s → held answer.TooLong l ≡ checkOf s l
-  unfolding checkOf
-  check-long h = rw (lt-ltb most-bytes (length s) h)
+  pub check-long : most-bytes < length s → TablesChecked s n l answer.TooLong l
+  unfolding checkOf filledTo
+  check-long h = record { with-errors = λ e k. rw (lt-ltb most-bytes (length s) h) }
 
   -- 2
-  pub check-short : length s ≤ most-bytes → tooShort l ≡ true → held answer.ShortTable l ≡ checkOf s l
-  unfolding checkOf
-  check-short h q = rw (le-ltb most-bytes (length s) h, q)
+  pub check-short : length s ≤ most-bytes → ((e : List ErrorRow) → length e ≡ n → tooShort (lentWith e l) ≡ true) → TablesChecked s n l answer.ShortTable l
+  unfolding checkOf filledTo
+  check-short h q = record { with-errors = λ e k. rw (le-ltb most-bytes (length s) h, q e k) }
 
 -- a table whose cells from n on are zeros: what stands behind, and the length of the rest
 behind-zero : (t z : List ℕ) (n : ℕ) → n ≤ length t → z ≡ sets t n (replicate (length t - n) 0) → (drop n z ≡ replicate (length t - n) 0) × (length (take n z) ≡ n)
@@ -200,10 +204,11 @@ pub part-length : (t z : List ℕ) (n : ℕ) → n ≤ length t → length z ≡
 part-length t z n h e = sym (length-take-le n z (part-fits t z n h e))
 
 -- of tables that are cleared only the lengths count
-cleared-lengths : (l u : Lent) → length (u .rows) ≡ length (l .rows) → length (u .cells) ≡ length (l .cells) → length (u .memory) ≡ length (l .memory)
-    → cleared (lent (u .rows) (u .cells) (l .nodes) (l .vars) (l .types) (l .errors) (l .log) (u .memory)) ≡ cleared l
-unfolding cleared
-cleared-lengths l u a b c = rw (a, b, c)
+cleared-lengths : (l u : Lent) (rows cells m : List ℕ) → length rows ≡ length (l .rows) → length cells ≡ length (l .cells) → length m ≡ length (l .memory)
+    → u ≡ emptied (lent rows cells (l .nodes) (l .vars) (l .types) [] (l .log) m)
+    → lent (u .rows) (u .cells) (u .nodes) (u .vars) (u .types) (filledTo (l .errors) (rowIn m 0) (length (l .errors))) (u .log) (zeros m) ≡ cleared l
+unfolding cleared emptied
+cleared-lengths l u rows cells m a b c e = rw (e, filled-none m (l .errors), a, b, c)
 
 -- what reading and typing gave in a table of fields of just its length
 cells-by : (s rows cells z a b m : List ℕ) (n : ℕ) → n ≤ length cells → z ≡ sets cells n (replicate (length cells - n) 0) → length b ≡ length (take n z)
@@ -258,19 +263,27 @@ module _ (s : List ℕ) (l : Lent) (h : length s ≤ most-bytes) (q : tooShort l
     (v : length m ≡ length (l .memory)) where
   -- the tables behind reading and typing
   abbrev behindWalk : Lent
-  behindWalk = lent rows cells (l .nodes) (l .vars) (l .types) (l .errors) (l .log) m
+  behindWalk = lent rows cells (l .nodes) (l .vars) (l .types) [] (l .log) m
 
   -- by what reading and typing gave
-  check-by : (w : Walked) → FileAs s w ((rows ≡ padded (length (l .rows)) (readingOf s .rows)) × (cells ≡ padded (length (l .cells)) (readingOf s .cells))) m → (r : Answer) (u : Lent) → HandedAs w behindWalk r u → held r u ≡ checkOf s l
+  check-by : (w : Walked) → FileAs s w ((rows ≡ padded (length (l .rows)) (readingOf s .rows)) × (cells ≡ padded (length (l .cells)) (readingOf s .cells))) m → (r : Answer) (u : Lent)
+      → u .memory ≡ m → HandedAs w behindWalk r u → held r (handedWith r (l .errors) u) ≡ checkOf s l
   unfolding checkOf typed
-  check-by (walked.Typed n d) g r u t =
-      let p = tables-filled n (readingOf s .rows) (readingOf s .cells) (read-well-formed s n (g .0)) l (not-short l q) m d u v (t .1 ∙ g .1 .0) (t .2 ∙ g .1 .1)
-      (t .3 ∙ ap (λ (o : ℕ). replicate o 0) v) (g .2 .1) (t .4) in
-      rw (le-ltb most-bytes (length s) h, q, g .0, g .2 .0, t .0, p, counted-totals m d (last-state n (readingOf s .rows) (readingOf s .cells)) n (g .2 .1))
-  check-by (walked.Declined k p) g r u t = rw (le-ltb most-bytes (length s) h, q, g .1, g .2 .0, g .2 .1, t .0, t .1, cleared-lengths l behindWalk x y v)
-  check-by (walked.Refused o k) g r u t = rw (le-ltb most-bytes (length s) h, q, g, t .0, t .1, cleared-lengths l behindWalk x y v)
-  check-by walked.Unread g r u t = absurd g
+  check-by (walked.Typed n d) g r u k t =
+      let p = tables-filled n (readingOf s .rows) (readingOf s .cells) (read-well-formed s n (g .0)) l (not-short l q) m d
+      (lent (u .rows) (u .cells) (u .nodes) (u .vars) (u .types) (filledTo (l .errors) (rowIn m (d .errors)) (length (l .errors))) (u .log) (zeros m)) v (t .1 ∙ g .1 .0) (t .2 ∙ g .1 .1)
+      (ap (λ (o : ℕ). replicate o 0) v) refl (g .2 .1) (t .3) in
+      rw (le-ltb most-bytes (length s) h, q, g .0, g .2 .0, t .0, k, p, counted-totals m d (last-state n (readingOf s .rows) (readingOf s .cells)) n (g .2 .1))
+  check-by (walked.Declined z p) g r u k t = rw (le-ltb most-bytes (length s) h, q, g .1, g .2 .0, g .2 .1, t .0, k, cleared-lengths l u rows cells m x y v (t .1))
+  check-by (walked.Refused o z) g r u k t = rw (le-ltb most-bytes (length s) h, q, g, t .0, k, cleared-lengths l u rows cells m x y v (t .1))
+  check-by walked.Unread g r u k t = absurd g
 
-  -- the result of a check
-  pub check-done : (w : Walked) (r : Answer) (u : Lent) → FileWalked s (l .rows) (l .cells) (l .memory) w rows cells m → HandedBack w behindWalk r u → held r u ≡ checkOf s l
-  check-done w r u g t = let long = not-short l q in check-by w (g .by h (long .rows) (long .cells) (omega (arith, long .memory))) r u (t .by)
+-- the result of a check
+pub check-done : (s : List ℕ) (n : ℕ) (l : Lent) → length s ≤ most-bytes → ((e : List ErrorRow) → length e ≡ n → tooShort (lentWith e l) ≡ false) → (rows cells m : List ℕ)
+    → length rows ≡ length (l .rows) → length cells ≡ length (l .cells) → length m ≡ length (l .memory) → (w : Walked) (r : Answer) (u : Lent) → FileWalked s (l .rows) (l .cells) (l .memory) w rows cells m
+    → u .memory ≡ m → HandedBack w (lent rows cells (l .nodes) (l .vars) (l .types) [] (l .log) m) r u → TablesChecked s n l r u
+check-done s n l h q rows cells m x y v w r u g k t = record {
+  with-errors = λ e z.
+      let long = not-short (lentWith e l) (q e z) in
+      check-by s (lentWith e l) h (q e z) rows cells m x y v w (g .by h (long .rows) (long .cells) (omega (arith, long .memory))) r u k (t .by);
+}

@@ -12,7 +12,7 @@ use Rattle.theory.specs.Program.{Equation}
 use Rattle.type_table.specs.Memory.{pick, tab, cell}
 use Rattle.refs.specs.declared.Counts.{Counts}
 use Rattle.nodes.specs.Nodes.{fnLine}
-use Rattle.record.specs.declared.ErrorRow.{ErrorRow}
+use Rattle.record.specs.declared.TypingError.{TypingError}
 use Rattle.record.specs.Own.{Own}
 use Rattle.record.specs.Regions.{numbers}
 use Rattle.record.specs.Steps.{State}
@@ -25,7 +25,8 @@ use Rattle.tables.specs.RowLaws.{length-cells, length-padded}
 use Rattle.tables.specs.Nodes.{nodeRow, nodeTable}
 use Rattle.tables.specs.Vars.{varRow, varTable}
 use Rattle.tables.specs.Types.{inputs-from, shapeInputs, typeRows, typeTable, inputsOf}
-use Rattle.tables.specs.Errors.{errorTable}
+use Rattle.errors.specs.Rows.{zeroRow, rowAt, errorRows}
+use Rattle.errors.specs.Filling.{length-error-rows, behind-rows}
 use Rattle.tables.specs.Log.{equationRow, logTable}
 use Rattle.tables.specs.Read.{madeAt}
 use Rattle.answers.specs.declared.Totals.{Totals}
@@ -62,7 +63,7 @@ pub record Zero (t : Totals) (u : Lent) : Type 0 where
   pub vars : (i : ℕ) → t .vars * 6 ≤ i → cell (u .vars) i ≡ 0
   pub types : (i : ℕ) → t .types * 5 ≤ i → i < inputs-from → cell (u .types) i ≡ 0
   pub inputs : (i : ℕ) → inputs-from + length (inputsOf (tab (madeAt (u .types)) (t .types))) ≤ i → cell (u .types) i ≡ 0
-  pub errors : (i : ℕ) → t .errors * 9 ≤ i → cell (u .errors) i ≡ 0
+  pub errors : (i : ℕ) → t .errors ≤ i → rowAt (u .errors) i ≡ zeroRow
   pub log : (i : ℕ) → t .equations * 3 ≤ i → cell (u .log) i ≡ 0
   pub memory : (i : ℕ) → cell (u .memory) i ≡ 0
 
@@ -80,12 +81,6 @@ node-length o k = length-cells (nodeRow o) 6 (λ i. refl) k
 var-length : (s : State) → length (varTable s) ≡ length (s .kinds) * 6
 unfolding varRow
 var-length s = length-cells (varRow s) 6 (λ v. refl) (length (s .kinds))
-
--- that of an error has nine
-error-length : (l : List ErrorRow) → length (errorTable l) ≡ length l * 9
-unfolding errorTable
-error-length [] = refl
-error-length (e ∷ l) = let z : suc (length l) * 9 ≡ length l * 9 + 9 = omega arith in rw (length-append (errorTable l) (numbers e), error-length l, z)
 
 -- that of a type five
 type-length : (k : ℕ) (l : List Shape) → length (typeRows k l) ≡ length l * 5
@@ -150,7 +145,7 @@ module _ (n : Counts) (rows cells : List ℕ) (w : WellFormed n rows cells) (z :
         vars = λ i h. behind (length (l .vars)) (varTable last) i (omega (arith, var-length last));
         types = λ i h b. types-behind i (omega (arith, e)) b;
         inputs = λ i h. inputs-behind i (rw (made-held n rows cells w l) at h);
-        errors = λ i h. behind (length (l .errors)) (errorTable (last .errs)) i (omega (arith, error-length (last .errs)));
+        errors = λ i h. behind-rows (errorRows (last .errs)) (length (l .errors)) i (omega (arith, length-error-rows (last .errs)));
         log = λ i h. behind (length (l .log)) (logTable (length (l .log)) (last .log)) i (omega (arith, log-length (length (l .log)) (last .log)));
         memory = λ i. zero-at (length (l .memory)) i;
       }

@@ -15,9 +15,12 @@ use Rattle.resolve.specs.Resolve.{type-body}
 use Rattle.resolve.specs.Body.{first-state, last-state, TypedBy}
 use Rattle.well_formed.specs.Good.{WellFormed}
 use Rattle.tables.specs.Rows.{padded}
+use Rattle.errors.specs.declared.ErrorRow.{ErrorRow}
+use Rattle.answers.specs.declared.Answer.{Answer}
 use Rattle.answers.specs.declared.Walked.{Walked}
 use Rattle.answers.specs.declared.Walked.the-variants as walked
-use Rattle.checker.specs.Check.{readingOf}
+use Rattle.answers.specs.Lent.{Lent, held, lentWith, handedWith}
+use Rattle.checker.specs.Check.{readingOf, checkOf}
 
 -- the rules refuse, with the number k at the node p
 abbrev pub Declining : Counts → List ℕ → List ℕ → ℕ → ℕ → Type 0
@@ -61,3 +64,7 @@ pub record CellsWalked (s rows cells m : List ℕ) (w : Walked) (rows′ cells�
 pub record FileWalked (s rows cells m : List ℕ) (w : Walked) (rows′ cells′ m′ : List ℕ) : Type 0 where
   pub by : length s ≤ most-bytes → rows-length ≤ length rows → cells-length ≤ length cells → log-at ≤ length m
       → FileAs s w ((rows′ ≡ padded (length rows) (readingOf s .rows)) × (cells′ ≡ padded (length cells) (readingOf s .cells))) m′
+
+-- a file is checked but for its errors, for which n rows are lent: with any such table, handed back from the memory, answer and tables are `checkOf`
+pub record TablesChecked (s : List ℕ) (n : ℕ) (l : Lent) (r : Answer) (u : Lent) : Type 0 where
+  pub with-errors : (e : List ErrorRow) → length e ≡ n → held r (handedWith r e u) ≡ checkOf s (lentWith e l)

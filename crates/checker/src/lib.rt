@@ -2,9 +2,9 @@
 // made types, errors and equations, used rows first and zeros behind; on a refusal every table is zero throughout.
 ghost use mathlib.Core.Path.{_≡_};
 ghost use Rattle.body.specs.Body.{rows-length, cells-length};
-ghost use Rattle.answers.specs.Lent.{lent, held};
-ghost use Rattle.checker.specs.Check.{checkOf};
-ghost use Rattle.checker.specs.Parts.{WalkRead, WalkedIn, CellsWalked, FileWalked};
+ghost use mathlib.Core.List.{[]};
+ghost use Rattle.answers.specs.Lent.{lent};
+ghost use Rattle.checker.specs.Parts.{WalkRead, WalkedIn, CellsWalked, FileWalked, TablesChecked};
 use answers::Answer;
 use answers::Walked;
 use body::Answer as Reading;
@@ -71,19 +71,19 @@ fn walk_file(s: &[u8], rows: &mut [u16], cells: &mut [u16], memory: &mut [u16]) 
     walk_cells(s, &mut rows[..a], cells, memory)
 }
 
-// Checks a file.
-pub fn check(
+// Checks a file but for its errors, for which so many rows are lent. The memory is as the walk leaves it.
+pub fn check_tables(
     s: &[u8],
     rows: &mut [u16],
     cells: &mut [u16],
     nodes: &mut [u16],
     vars: &mut [u16],
     types: &mut [u16],
-    errors: &mut [u16],
+    errors: usize,
     log: &mut [u16],
     memory: &mut [u16],
 ) -> Answer
-    ensures { λ r. ⌜ held r (lent (now (rows .exit)) (now (cells .exit)) (now (nodes .exit)) (now (vars .exit)) (now (types .exit)) (now (errors .exit)) (now (log .exit)) (now (memory .exit))) ≡ checkOf (now (s .entry)) (lent (now (rows .entry)) (now (cells .entry)) (now (nodes .entry)) (now (vars .entry)) (now (types .entry)) (now (errors .entry)) (now (log .entry)) (now (memory .entry))) ⌝ }
+    ensures { λ r. ⌜ TablesChecked (now (s .entry)) errors (lent (now (rows .entry)) (now (cells .entry)) (now (nodes .entry)) (now (vars .entry)) (now (types .entry)) [] (now (log .entry)) (now (memory .entry))) r (lent (now (rows .exit)) (now (cells .exit)) (now (nodes .exit)) (now (vars .exit)) (now (types .exit)) [] (now (log .exit)) (now (memory .exit))) ⌝ }
 {
     if body::MOST_BYTES < s.len() {
         return Answer::TooLong;
@@ -92,5 +92,5 @@ pub fn check(
         return Answer::ShortTable;
     }
     let w = walk_file(s, rows, cells, memory);
-    answers::hand_back(w, rows, cells, nodes, vars, types, errors, log, memory)
+    answers::hand_back(w, rows, cells, nodes, vars, types, log, memory)
 }

@@ -13,7 +13,7 @@ use Rattle.type_table.specs.Tables.{getD-tab, tab-out}
 use Rattle.record.specs.declared.NodeType.{NodeType}
 use Rattle.record.specs.declared.NodeType.the-variants.{Typed, Untyped}
 use Rattle.record.specs.declared.Extra.{Extra}
-use Rattle.record.specs.declared.ErrorRow.{ErrorRow}
+use Rattle.record.specs.declared.TypingError.{TypingError}
 use Rattle.record.specs.declared.Record.{Record}
 use Rattle.record.specs.Own.{most-nodes, nodes-at, errors-at, rawAt, rawsOf, nodeType, extraTag, extraValue, kindNumber, spanTag, spanValue, secondTag, secondValue, errorWritten}
 use Rattle.record.specs.Steps.{orNil, set-node-type, set-extra, set-final, error}
@@ -94,7 +94,7 @@ module _ (m m₁ w : List ℕ) (n : ℕ) (h : n < most-nodes) where
 -- ── an error ──
 
 -- the nine stores of an error
-pub error-stores : (m m₁ m₂ m₃ m₄ m₅ m₆ m₇ m₈ w : List ℕ) (i : ℕ) (e : ErrorRow) (k p u q v : ℕ) → k ≡ kindNumber (e .kind) → p ≡ spanTag (e .at) → u ≡ spanValue (e .at) → q ≡ secondTag (e .second) → v ≡ secondValue (e .second)
+pub error-stores : (m m₁ m₂ m₃ m₄ m₅ m₆ m₇ m₈ w : List ℕ) (i : ℕ) (e : TypingError) (k p u q v : ℕ) → k ≡ kindNumber (e .kind) → p ≡ spanTag (e .at) → u ≡ spanValue (e .at) → q ≡ secondTag (e .second) → v ≡ secondValue (e .second)
     → let j = errors-at + i * 9 in
     m₁ ≡ set m j k → m₂ ≡ set m₁ (j + 1) (e .cause) → m₃ ≡ set m₂ (j + 2) p → m₄ ≡ set m₃ (j + 3) u → m₅ ≡ set m₄ (j + 4) q → m₆ ≡ set m₅ (j + 5) v → m₇ ≡ set m₆ (j + 6) (e .a) → m₈ ≡ set m₇ (j + 7) (e .b) → w ≡ set m₈ (j + 8) (e .c)
     → w ≡ errorWritten m i e
@@ -102,7 +102,7 @@ unfolding errorWritten
 error-stores m m₁ m₂ m₃ m₄ m₅ m₆ m₇ m₈ w i e k p u q v ek ep eu eq ev e₁ e₂ e₃ e₄ e₅ e₆ e₇ e₈ e₉ = rw (e₉, e₈, e₇, e₆, e₅, e₄, e₃, e₂, e₁, ek, ep, eu, eq, ev)
 
 -- an error is written and counted
-pub error-counted : (m w : List ℕ) (c : Record) (e : ErrorRow) → w ≡ errorWritten m (c .errors) e → Runs m c w (withErrors c (c .errors + 1)) (error e) tt
+pub error-counted : (m w : List ℕ) (c : Record) (e : TypingError) → w ≡ errorWritten m (c .errors) e → Runs m c w (withErrors c (c .errors + 1)) (error e) tt
 error-counted m w c e p = rw p (emit-more m c e)
 
 -- ── the nodes are cleared ──

@@ -20,7 +20,7 @@ use Rattle.unify.specs.declared.Cause.the-variants.{Other, KindOrder}
 use Rattle.unify.specs.Promise.{Frame, Solved, SolvedBy, answerIs, solveIn}
 use Rattle.unify.specs.Keeps.{held-sound, never-dry, unify-sound, unify-step}
 use Rattle.record.specs.declared.Record.{Record}
-use Rattle.record.specs.declared.ErrorRow.{ErrorRow}
+use Rattle.record.specs.declared.TypingError.{TypingError}
 use Rattle.record.specs.declared.Equated.{Equated}
 use Rattle.record.specs.declared.Equated.the-variants as equated
 use Rattle.record.specs.Own.{log-at, most-errors}
@@ -104,7 +104,7 @@ out-of refused13 h = refl
 out-of dry h = absurd h
 
 -- where one error more fits, the state without it fits
-fits-before : (e : ErrorRow) (s : State) → Fits (emitted e s) → Fits s
+fits-before : (e : TypingError) (s : State) → Fits (emitted e s) → Fits s
 unfolding emitted
 fits-before e s f = record { rows = f .rows; vars = f .vars; inputs = f .inputs; errors = omega (arith, f .errors); equations = f .equations }
 
@@ -204,7 +204,7 @@ module _ (m w : List ℕ) (c : Record) (x y : TypeId) (r : Answer) (p : Solved m
             }
 
   -- the equation runs by its answer
-  reacts : {s : State} (e : Encodes m c s) (n : ℕ) (err : ErrorRow) → run (equation n (x .0) (y .0) err) s ≡ react n (outOf r) (caused err) (λ b t. (some b, t)) (after s)
+  reacts : {s : State} (e : Encodes m c s) (n : ℕ) (err : TypingError) → run (equation n (x .0) (y .0) err) s ≡ react n (outOf r) (caused err) (λ b t. (some b, t)) (after s)
   unfolding equation run
   reacts {s} e n err = ap (λ (o : Out). react n o (caused err) (λ b t. (some b, t)) (after s)) (sym (answer e))
 
@@ -213,7 +213,7 @@ module _ (m w : List ℕ) (c : Record) (x y : TypeId) (r : Answer) (p : Solved m
   numbered s e q = ap answerNumber (sym (ap outOf q) ∙ answer e)
 
   -- the equation is met
-  pub equation-met : r ≡ Success → (n : ℕ) (err : ErrorRow) (m′ : List ℕ) (d : Record) → Logs w c (x .0) (y .0) 0 m′ d → Equates m c m′ n (equated.Met d) (equation n (x .0) (y .0) err)
+  pub equation-met : r ≡ Success → (n : ℕ) (err : TypingError) (m′ : List ℕ) (d : Record) → Logs w c (x .0) (y .0) 0 m′ d → Equates m c m′ n (equated.Met d) (equation n (x .0) (y .0) err)
   equation-met q n err m′ d logs = record {
     by = record {
       ran = λ s e f. let h : run (equation n (x .0) (y .0) err) s ≡ (some true, after s) = rw q at (reacts e n err) in
@@ -222,13 +222,13 @@ module _ (m w : List ℕ) (c : Record) (x y : TypeId) (r : Answer) (p : Solved m
   }
 
   -- the error of an equation that failed with the CAUSE k
-  failing : {s : State} (e : Encodes m c s) (k : ℕ) (err : ErrorRow) (m′ : List ℕ) (d : Record) → k ≡ answerNumber ((result s) .0) → Fails w c (x .0) (y .0) k err m′ (equated.Failed d) → Fits (emitted (withCause err k) (after s)) → Encodes m′ d (emitted (withCause err k) (after s))
+  failing : {s : State} (e : Encodes m c s) (k : ℕ) (err : TypingError) (m′ : List ℕ) (d : Record) → k ≡ answerNumber ((result s) .0) → Fails w c (x .0) (y .0) k err m′ (equated.Failed d) → Fits (emitted (withCause err k) (after s)) → Encodes m′ d (emitted (withCause err k) (after s))
   unfolding error run raised
   failing {s} e k err m′ d q fails f =
       let g : Fits (after s) = fits-before (withCause err k) (after s) f in
       fails (omega (arith, e .equations, g .equations)) .ran (after s) (noted e g (logWritten w c (x .0) (y .0) k) (oneEquation c) k (λ h. (refl, refl)) q) f .1
 
-  module _ (k n : ℕ) (err : ErrorRow) (is : (s : State) → Encodes m c s → k ≡ answerNumber ((result s) .0)) where
+  module _ (k n : ℕ) (err : TypingError) (is : (s : State) → Encodes m c s → k ≡ answerNumber ((result s) .0)) where
     -- the equation failed with the CAUSE k
     failed-by : ((s : State) → Encodes m c s → run (equation n (x .0) (y .0) err) s ≡ (some false, emitted (withCause err k) (after s))) → (m′ : List ℕ) (z : Equated) → Fails w c (x .0) (y .0) k err m′ z → Equates m c m′ n z (equation n (x .0) (y .0) err)
     failed-by g m′ (equated.Met d) h = absurd h
@@ -240,23 +240,23 @@ module _ (m w : List ℕ) (c : Record) (x y : TypeId) (r : Answer) (p : Solved m
     refused-by g m′ d logs = record { by = record { stopped = λ s e f. rw (g s e) (refl, stops-with k n (after s), encodes-refused k n (noted e (fits-refused k n (after s) (rw (g s e) at f)) m′ d k logs (is s e))) } }
 
   -- the equation failed with CAUSE 1
-  pub equation-other : r ≡ Mismatch Other → (n : ℕ) (err : ErrorRow) (m′ : List ℕ) (z : Equated) → Fails w c (x .0) (y .0) 1 err m′ z → Equates m c m′ n z (equation n (x .0) (y .0) err)
+  pub equation-other : r ≡ Mismatch Other → (n : ℕ) (err : TypingError) (m′ : List ℕ) (z : Equated) → Fails w c (x .0) (y .0) 1 err m′ z → Equates m c m′ n z (equation n (x .0) (y .0) err)
   equation-other q n err = failed-by 1 n err (λ s e. numbered s e q) (λ s e. rw q at (reacts e n err))
 
   -- the equation failed with CAUSE 2
-  pub equation-order : r ≡ Mismatch KindOrder → (n : ℕ) (err : ErrorRow) (m′ : List ℕ) (z : Equated) → Fails w c (x .0) (y .0) 2 err m′ z → Equates m c m′ n z (equation n (x .0) (y .0) err)
+  pub equation-order : r ≡ Mismatch KindOrder → (n : ℕ) (err : TypingError) (m′ : List ℕ) (z : Equated) → Fails w c (x .0) (y .0) 2 err m′ z → Equates m c m′ n z (equation n (x .0) (y .0) err)
   equation-order q n err = failed-by 2 n err (λ s e. numbered s e q) (λ s e. rw q at (reacts e n err))
 
   -- the equation is refused with 12
-  pub equation-12 : r ≡ Refused12 → (n : ℕ) (err : ErrorRow) (m′ : List ℕ) (d : Record) → Logs w c (x .0) (y .0) 12 m′ d → Equates m c m′ n (equated.Refused d 12) (equation n (x .0) (y .0) err)
+  pub equation-12 : r ≡ Refused12 → (n : ℕ) (err : TypingError) (m′ : List ℕ) (d : Record) → Logs w c (x .0) (y .0) 12 m′ d → Equates m c m′ n (equated.Refused d 12) (equation n (x .0) (y .0) err)
   equation-12 q n err = refused-by 12 n err (λ s e. numbered s e q) (λ s e. rw q at (reacts e n err))
 
   -- the equation is refused with 13
-  pub equation-13 : r ≡ Refused13 → (n : ℕ) (err : ErrorRow) (m′ : List ℕ) (d : Record) → Logs w c (x .0) (y .0) 13 m′ d → Equates m c m′ n (equated.Refused d 13) (equation n (x .0) (y .0) err)
+  pub equation-13 : r ≡ Refused13 → (n : ℕ) (err : TypingError) (m′ : List ℕ) (d : Record) → Logs w c (x .0) (y .0) 13 m′ d → Equates m c m′ n (equated.Refused d 13) (equation n (x .0) (y .0) err)
   equation-13 q n err = refused-by 13 n err (λ s e. numbered s e q) (λ s e. rw q at (reacts e n err))
 
 -- ── the error of a failed equation ──
 
 -- the equation is logged and its error emitted
-pub failed-fails : (m w m′ : List ℕ) (c d z : Record) (x y k : ℕ) (err row : ErrorRow) → row ≡ withCause err k → Logs m c x y k w d → Runs w d m′ z (error row) tt → Fails m c x y k err m′ (equated.Failed z)
+pub failed-fails : (m w m′ : List ℕ) (c d z : Record) (x y k : ℕ) (err row : TypingError) → row ≡ withCause err k → Logs m c x y k w d → Runs w d m′ z (error row) tt → Fails m c x y k err m′ (equated.Failed z)
 failed-fails m w m′ c d z x y k err row q logs runs h = let g = logs h in rw (g .0, g .1, q) at runs

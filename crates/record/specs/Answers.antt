@@ -8,7 +8,7 @@ use Rattle.theory.specs.Program.{clip}
 use Rattle.type_table.specs.declared.Counts.{Counts}
 use Rattle.type_table.specs.Made.{Counting, pushed, pushIn}
 use Rattle.record.specs.declared.Record.{Record}
-use Rattle.record.specs.declared.ErrorRow.{ErrorRow}
+use Rattle.record.specs.declared.TypingError.{TypingError}
 use Rattle.record.specs.declared.Equated.{Equated}
 use Rattle.record.specs.declared.Equated.the-variants as equated
 use Rattle.record.specs.Own.{log-at, rawsOf}
@@ -43,11 +43,11 @@ abbrev pub Logs : List ℕ → Record → ℕ → ℕ → ℕ → List ℕ → R
 Logs m c x y a m′ d = c .equations < 65535 → (m′ ≡ logWritten m c x y a) × (d ≡ oneEquation c)
 
 -- an error with a CAUSE
-abbrev pub withCause : ErrorRow → ℕ → ErrorRow
+abbrev pub withCause : TypingError → ℕ → TypingError
 withCause e k = record { kind = e .kind; cause = k; at = e .at; second = e .second; a = e .a; b = e .b; c = e .c }
 
 -- an equation is logged with the CAUSE k, and the error with it is emitted
-abbrev pub Fails : List ℕ → Record → ℕ → ℕ → ℕ → ErrorRow → List ℕ → Equated → Type 0
+abbrev pub Fails : List ℕ → Record → ℕ → ℕ → ℕ → TypingError → List ℕ → Equated → Type 0
 Fails m c x y k e m′ (equated.Met d) = ⊥
 Fails m c x y k e m′ (equated.Failed d) = c .equations < 65535 → Runs (logWritten m c x y k) (oneEquation c) m′ d (error (withCause e k)) tt
 Fails m c x y k e m′ (equated.Refused d n) = ⊥

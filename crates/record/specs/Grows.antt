@@ -8,7 +8,7 @@ use native.Mathlib.Omega.{arith}
 use lib.ListN.{length, length-append}
 use Rattle.theory.specs.Rules.{Shape, var, Kind, Out, success, mismatch, kindOrder, refused12, refused13, dry, Res}
 use Rattle.theory.specs.Program.{St, Prog, done, refuse, draw, intern, equate, emit, mark, read, write, clip, firstEqual, sane, drawn, appended, emitted, written, refused, marking, raised, pooled, internIf, interned, solved, react, run, _>>=_, goOn, run-bind}
-use Rattle.record.specs.declared.ErrorRow.{ErrorRow}
+use Rattle.record.specs.declared.TypingError.{TypingError}
 use Rattle.record.specs.Own.{Own}
 use Rattle.record.specs.Steps.{State, Walk}
 use Rattle.record.specs.Encodes.{inputCount, inputTotal, Fits}
@@ -89,7 +89,7 @@ unfolding interned
 interned-grown t s = intern-if-grown (sane (length (s .rows)) t) t s
 
 -- one error more
-emitted-grown : (e : ErrorRow) (s : State) → Grown s (emitted e s)
+emitted-grown : (e : TypingError) (s : State) → Grown s (emitted e s)
 unfolding emitted
 emitted-grown e s = record { rows = omega arith; vars = omega arith; inputs = omega arith; errors = omega arith; equations = omega arith }
 
@@ -114,7 +114,7 @@ unfolding raised
 raised-grown e g r s = record { rows = omega arith; vars = omega arith; inputs = omega arith; errors = omega arith; equations = omega arith }
 
 -- what follows an equation
-react-grown : {A : Type 0} (p : ℕ) (o : Out) (f : Out → ErrorRow) (k : Bool → State → Option A × State) (s : State) → ((c : Bool) (t : State) → Grown t ((k c t) .1)) → Grown s ((react p o f k s) .1)
+react-grown : {A : Type 0} (p : ℕ) (o : Out) (f : Out → TypingError) (k : Bool → State → Option A × State) (s : State) → ((c : Bool) (t : State) → Grown t ((k c t) .1)) → Grown s ((react p o f k s) .1)
 react-grown p success f k s h = h true s
 react-grown p mismatch f k s h = grown-trans (emitted-grown (f mismatch) s) (h false (emitted (f mismatch) s))
 react-grown p kindOrder f k s h = grown-trans (emitted-grown (f kindOrder) s) (h false (emitted (f kindOrder) s))

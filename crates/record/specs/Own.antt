@@ -22,7 +22,7 @@ use Rattle.record.specs.declared.Span.{Span}
 use Rattle.record.specs.declared.Span.the-variants as span
 use Rattle.record.specs.declared.Second.{Second}
 use Rattle.record.specs.declared.Second.the-variants as second
-use Rattle.record.specs.declared.ErrorRow.{ErrorRow}
+use Rattle.record.specs.declared.TypingError.{TypingError}
 
 -- ── the regions ──
 
@@ -215,7 +215,7 @@ abbrev pub errorCell : List ℕ → ℕ → ℕ → ℕ
 errorCell m i k = cell m (errors-at + i * 9 + k)
 
 -- the error i
-unfoldable pub errorAt : List ℕ → ℕ → ErrorRow
+unfoldable pub errorAt : List ℕ → ℕ → TypingError
 errorAt m i = record {
   kind = kindAt (errorCell m i 0);
   cause = errorCell m i 1;
@@ -227,12 +227,12 @@ errorAt m i = record {
 }
 
 -- the error i with its nine cells
-unfoldable pub errorWritten : List ℕ → ℕ → ErrorRow → List ℕ
+unfoldable pub errorWritten : List ℕ → ℕ → TypingError → List ℕ
 errorWritten m i e =
     let j = errors-at + i * 9 in
     set (set (set (set (set (set (set (set (set m j (kindNumber (e .kind))) (j + 1) (e .cause)) (j + 2) (spanTag (e .at))) (j + 3) (spanValue (e .at))) (j + 4) (secondTag (e .second))) (j + 5) (secondValue (e .second))) (j + 6) (e .a)) (j + 7) (e .b)) (j + 8) (e .c)
 
 -- the first n errors, the newest first
-unfoldable pub errorsOf : List ℕ → ℕ → List ErrorRow
+unfoldable pub errorsOf : List ℕ → ℕ → List TypingError
 errorsOf m zero = []
 errorsOf m (suc n) = errorAt m n ∷ errorsOf m n

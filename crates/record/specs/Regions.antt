@@ -15,7 +15,7 @@ use Rattle.type_table.specs.Tables.{length-tab, tab-ext, tab-set}
 use Rattle.type_table.specs.Frames.{SameIn, set-above}
 use Rattle.record.specs.declared.Extra.{Extra}
 use Rattle.record.specs.declared.Extra.the-variants as extra
-use Rattle.record.specs.declared.ErrorRow.{ErrorRow}
+use Rattle.record.specs.declared.TypingError.{TypingError}
 use Rattle.record.specs.Own.{most-nodes, nodes-at, errors-at, log-at, Own, nodeCell, errorCell, rawAt, extraOf, extraAt, finalAt, ownOf, rawsOf, blank, typed, marked, resolved, extraTag, extraValue, kindNumber, spanTag, spanValue, secondTag, secondValue, errorAt, errorWritten, errorsOf}
 use Rattle.record.specs.Codes.{extra-read, kind-read, span-read, second-read}
 use Rattle.record.specs.Encodes.{Logged}
@@ -291,16 +291,16 @@ cleared-cell m (suc k) i l r h = by (ℕ-discrete i (nodes-at + k)) (λ q. clear
 -- ── an error is written ──
 
 -- the nine numbers of an error
-abbrev pub numbers : ErrorRow → List ℕ
+abbrev pub numbers : TypingError → List ℕ
 numbers e = kindNumber (e .kind) ∷ e .cause ∷ spanTag (e .at) ∷ spanValue (e .at) ∷ secondTag (e .second) ∷ secondValue (e .second) ∷ e .a ∷ e .b ∷ e .c ∷ []
 
 -- they are stored one after another
-pub error-sets : (m : List ℕ) (i : ℕ) (e : ErrorRow) → errorWritten m i e ≡ sets m (errors-at + i * 9) (numbers e)
+pub error-sets : (m : List ℕ) (i : ℕ) (e : TypingError) → errorWritten m i e ≡ sets m (errors-at + i * 9) (numbers e)
 unfolding errorWritten
 error-sets m i e = simp towards-suc
 
 -- the error reads as it was written
-pub error-read : (m : List ℕ) (i : ℕ) (e : ErrorRow) → errors-at + i * 9 + 9 ≤ length m → errorAt (sets m (errors-at + i * 9) (numbers e)) i ≡ e
+pub error-read : (m : List ℕ) (i : ℕ) (e : TypingError) → errors-at + i * 9 + 9 ≤ length m → errorAt (sets m (errors-at + i * 9) (numbers e)) i ≡ e
 unfolding errorAt
 error-read m i e room =
     rw (at 0 (omega arith), at 1 (omega arith), at 2 (omega arith), at 3 (omega arith), at 4 (omega arith), at 5 (omega arith), at 6 (omega arith), at 7 (omega arith), at 8 (omega arith), kind-read (e .kind), span-read (e .at), second-read (e .second))
@@ -309,6 +309,6 @@ error-read m i e room =
     at k h = sets-at m (errors-at + i * 9) (numbers e) k h room
 
 -- one more error
-pub errors-more : (m : List ℕ) (n : ℕ) (e : ErrorRow) → errors-at + n * 9 + 9 ≤ length m → errorsOf (errorWritten m n e) (n + 1) ≡ e ∷ errorsOf m n
+pub errors-more : (m : List ℕ) (n : ℕ) (e : TypingError) → errors-at + n * 9 + 9 ≤ length m → errorsOf (errorWritten m n e) (n + 1) ≡ e ∷ errorsOf m n
 unfolding errorsOf
 errors-more m n e room = rw (error-sets m n e, add-one n, error-read m n e room, errors-kept m (sets m (errors-at + n * 9) (numbers e)) n (λ i l r. sets-other m (errors-at + n * 9) (numbers e) i (λ k h q. omega arith)))

@@ -12,12 +12,12 @@ use Rattle.type_table.specs.declared.Origin.the-variants.{Node}
 use Rattle.type_table.specs.Memory.{numbered}
 use Rattle.type_table.specs.Made.{originNumber}
 use Rattle.record.specs.declared.Extra.{Extra}
-use Rattle.record.specs.declared.ErrorRow.{ErrorRow}
+use Rattle.record.specs.declared.TypingError.{TypingError}
 use Rattle.record.specs.Own.{Own, typed, marked, resolved}
 
 -- the state of the walk
 abbrev pub State : Type 0
-State = St Own ErrorRow
+State = St Own TypingError
 
 -- a type, Nil where there is none
 abbrev pub orNil : Option ℕ → ℕ
@@ -26,7 +26,7 @@ orNil (some t) = t
 
 -- a program of a walk
 abbrev pub Walk : Type 0 → Type 0
-Walk A = Prog Own ErrorRow A
+Walk A = Prog Own TypingError A
 
 -- no answer but that it is done
 abbrev pub Step : Type 0
@@ -105,15 +105,15 @@ unfoldable pub mark-var : ℕ → Step
 mark-var v = mark v (done tt)
 
 -- one error more
-unfoldable pub error : ErrorRow → Step
+unfoldable pub error : TypingError → Step
 error e = emit e (done tt)
 
 -- an error with the CAUSE of a failed equation
-abbrev pub caused : ErrorRow → Out → ErrorRow
+abbrev pub caused : TypingError → Out → TypingError
 caused e o = record { kind = e .kind; cause = (numbersOf o) .1; at = e .at; second = e .second; a = e .a; b = e .b; c = e .c }
 
 -- raise the equation of x, expected, and y, got, in the rule of the node n: whether it is met; a mismatch emits its error
-unfoldable pub equation : ℕ → ℕ → ℕ → ErrorRow → Walk Bool
+unfoldable pub equation : ℕ → ℕ → ℕ → TypingError → Walk Bool
 equation n x y e = equate n x y (caused e) done
 
 -- the k numbers from i on, in order

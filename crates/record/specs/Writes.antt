@@ -16,7 +16,7 @@ use Rattle.type_table.specs.Made.{Counting, pushed, startIn}
 use Rattle.type_table.specs.Sound.{fixed-types}
 use Rattle.type_table.specs.Promises.{start-step, start-keeps}
 use Rattle.record.specs.declared.Extra.{Extra}
-use Rattle.record.specs.declared.ErrorRow.{ErrorRow}
+use Rattle.record.specs.declared.TypingError.{TypingError}
 use Rattle.record.specs.declared.Record.{Record}
 use Rattle.record.specs.Own.{most-errors, most-nodes, nodes-at, errors-at, log-at, Own, ownOf, blank, extraTag, extraValue, errorWritten, errorsOf}
 use Rattle.record.specs.Steps.{State, change, set-node-type, set-extra, set-final, error}
@@ -98,17 +98,17 @@ module _ (m : List ℕ) (v : ℕ) (out : most-nodes ≤ v) where
 -- ── errors ──
 
 -- where there is a state after one more error, there is room for it
-error-room : (m : List ℕ) (c : Record) (e : ErrorRow) (s : State) → Encodes m c s → Fits (emitted e s) → c .errors < most-errors
+error-room : (m : List ℕ) (c : Record) (e : TypingError) (s : State) → Encodes m c s → Fits (emitted e s) → c .errors < most-errors
 unfolding emitted
 error-room m c e s h fits = let l : length (s .errs) ≡ c .errors = ap length (h .errors) ∙ length-errors m (c .errors) in omega (arith, fits .errors)
 
 -- without room there is no such state
-pub emit-full : (m : List ℕ) (c : Record) (e : ErrorRow) → most-errors ≤ c .errors → Runs m c m c (error e) tt
+pub emit-full : (m : List ℕ) (c : Record) (e : TypingError) → most-errors ≤ c .errors → Runs m c m c (error e) tt
 unfolding run error
 emit-full m c e full = record { ran = λ s h fits. absurd (omega (arith, error-room m c e s h fits)) }
 
 -- the error i is written
-module _ (m : List ℕ) (i : ℕ) (e : ErrorRow) where
+module _ (m : List ℕ) (i : ℕ) (e : TypingError) where
   -- the other cells stay
   error-other : (x : ℕ) → ((k : ℕ) → k < 9 → x ≢ errors-at + i * 9 + k) → cell (errorWritten m i e) x ≡ cell m x
   error-other x h = rw (error-sets m i e) (sets-other m (errors-at + i * 9) (numbers e) x h)
@@ -118,7 +118,7 @@ module _ (m : List ℕ) (i : ℕ) (e : ErrorRow) where
   error-behind = rw (error-sets m i e) (behind-sets m (errors-at + i * 9) (numbers e) (omega arith))
 
 -- one more error, where there is room
-module _ (m : List ℕ) (c : Record) (e : ErrorRow) (s : State) (h : Encodes m c s) (room : c .errors < most-errors) where
+module _ (m : List ℕ) (c : Record) (e : TypingError) (s : State) (h : Encodes m c s) (room : c .errors < most-errors) where
   -- the memory holds the state with the error
   emit-encodes : Encodes (errorWritten m (c .errors) e) (withErrors c (c .errors + 1)) (emitted e s)
   unfolding emitted
@@ -131,13 +131,13 @@ module _ (m : List ℕ) (c : Record) (e : ErrorRow) (s : State) (h : Encodes m c
         tables = behind-types m w (c .counts) s (emitted e s) b (h .sound) record { rows = refl; kinds = refl; origins = refl; mem = refl } (h .tables);
         inputs = h .inputs;
         own = h .own ∙ sym (own-kept m w (c .output .0) (λ i l r. error-other m (c .errors) e i (λ k q p. omega arith)));
-        errors = ap (λ (l : List ErrorRow). e ∷ l) (h .errors) ∙ sym (errors-more m (c .errors) e (omega (arith, h .size)));
+        errors = ap (λ (l : List TypingError). e ∷ l) (h .errors) ∙ sym (errors-more m (c .errors) e (omega (arith, h .size)));
         equations = h .equations;
         logged = logged-kept m w (s .log) (b .size) (λ i l r. error-other m (c .errors) e i (λ k q p. omega arith)) (h .logged);
       }
 
 -- one more error
-pub emit-more : (m : List ℕ) (c : Record) (e : ErrorRow) → Runs m c (errorWritten m (c .errors) e) (withErrors c (c .errors + 1)) (error e) tt
+pub emit-more : (m : List ℕ) (c : Record) (e : TypingError) → Runs m c (errorWritten m (c .errors) e) (withErrors c (c .errors + 1)) (error e) tt
 unfolding run error
 emit-more m c e = record { ran = λ s h fits. (refl, emit-encodes m c e s h (error-room m c e s h fits)) }
 

@@ -61,7 +61,7 @@ pub enum Extra {
     Resolved(Res),
 }
 
-// `TypingError`, in its order.
+// The variants of `TypingError`, in their order.
 pub enum ErrorKind {
     TypeMismatch,
     NoIndexOp,
@@ -90,7 +90,7 @@ pub enum Second {
 }
 
 // An error: KIND, CAUSE, P, Q and its values; those that its kind does not have are 0.
-pub struct ErrorRow {
+pub struct TypingError {
     pub kind: ErrorKind,
     pub cause: u16,
     pub at: Span,
@@ -284,7 +284,7 @@ fn second_value(q: Second) -> u16
 }
 
 // Writes the error row i.
-fn write_error(m: &mut [u16], i: u16, e: ErrorRow)
+fn write_error(m: &mut [u16], i: u16, e: TypingError)
     ensures { λ _. ⌜ now (m .exit) ≡ errorWritten (now (m .entry)) i e ⌝ }
 {
     let at = ERRORS_AT + i as usize * 9;
@@ -312,7 +312,7 @@ fn write_error(m: &mut [u16], i: u16, e: ErrorRow)
 }
 
 // One error more. Without room nothing changes.
-pub fn emit(m: &mut [u16], c: Record, e: ErrorRow) -> Record
+pub fn emit(m: &mut [u16], c: Record, e: TypingError) -> Record
     ensures { λ r. ⌜ Runs (now (m .entry)) c (now (m .exit)) r (error e) tt ⌝ }
 {
     let i = c.errors;
@@ -368,7 +368,7 @@ pub enum Equated {
 }
 
 // The error of a failed equation.
-fn failed(m: &mut [u16], c: Record, x: TypeId, y: TypeId, cause: u16, e: ErrorRow) -> Equated
+fn failed(m: &mut [u16], c: Record, x: TypeId, y: TypeId, cause: u16, e: TypingError) -> Equated
     ensures { λ r. ⌜ Fails (now (m .entry)) c (x .0) (y .0) cause e (now (m .exit)) r ⌝ }
 {
     let k = e.kind;
@@ -381,7 +381,7 @@ fn failed(m: &mut [u16], c: Record, x: TypeId, y: TypeId, cause: u16, e: ErrorRo
     let r = emit(
         m,
         d,
-        ErrorRow {
+        TypingError {
             kind: k,
             cause: cause,
             at: at,
@@ -395,7 +395,7 @@ fn failed(m: &mut [u16], c: Record, x: TypeId, y: TypeId, cause: u16, e: ErrorRo
 }
 
 // Raises the equation of the rows x, expected, and y, got; a mismatch emits the error e with its cause.
-pub fn equate(m: &mut [u16], c: Record, x: TypeId, y: TypeId, e: ErrorRow) -> Equated
+pub fn equate(m: &mut [u16], c: Record, x: TypeId, y: TypeId, e: TypingError) -> Equated
     ensures { λ r. ⌜ ((n : ℕ) → Equates (now (m .entry)) c (now (m .exit)) n r (equation n (x .0) (y .0) e)) ⌝ }
 {
     let d = c.counts;

@@ -19,13 +19,15 @@ use Rattle.record.specs.declared.Extra.the-variants as extra
 use Rattle.record.specs.declared.ErrorKind.{ErrorKind}
 use Rattle.record.specs.declared.ErrorKind.the-variants as error
 use Rattle.record.specs.Own.{flagged, extraOf, kindNumber, kindAt, spanOf, secondOf}
+use Rattle.errors.specs.declared.ErrorRow.{ErrorRow}
+use Rattle.errors.specs.Rows.{errorOf}
 use Rattle.tables.specs.Rows.{cellsTo}
 use Rattle.tables.specs.Types.{inputs-from}
 use Rattle.tables.specs.Read.{cellsAt, madeAt}
 use Rattle.output.specs.declared.Cursor.{Cursor}
 use Rattle.output.specs.Output.{Appends, numberText, newline}
 use Rattle.output.specs.Appending.{append-none, then, appends-as}
-use Rattle.report_text.specs.Lines.{optionText, optionAt, eachText, answerLine, typeText, typeLine, typeLines, kindText, varLine, varLines, extraText, nodeLine, nodeLines, spanText, secondText, valuesOf, errorIn, errorText, errorLine, errorLines, tablesText, lambdaText, placeText, valueCount, valueCells}
+use Rattle.report_text.specs.Lines.{optionText, optionAt, eachText, answerLine, typeText, typeLine, typeLines, kindText, varLine, varLines, extraText, nodeLine, nodeLines, spanText, secondText, valuesOf, errorText, errorLine, errorLines, tablesText, lambdaText, placeText, valueCount, valueCells}
 
 -- ── a number that may be absent ──
 
@@ -147,23 +149,23 @@ values-as error.InferFail a b c = refl
 pub values-none : (l : List ℕ) (n : ℕ) (c : Cursor) (x : List ℕ) → n ≡ 0 → Appends (eachText (take n l)) c x c x
 values-none l n c x e = rw e (each-none l c x)
 
-pub values-one : {c d : Cursor} {x y : List ℕ} (t : List ℕ) (i n : ℕ) → n ≡ 1 → Appends (text "," ++ numberText (cell t (i * 9 + 6))) c x d y → Appends (eachText (take n (valueCells t i))) c x d y
+pub values-one : {c d : Cursor} {x y : List ℕ} (r : ErrorRow) (n : ℕ) → n ≡ 1 → Appends (text "," ++ numberText (r .a)) c x d y → Appends (eachText (take n (valueCells r))) c x d y
 unfolding eachText
-values-one t i n e f = rw e (appends-as (sym (append-nil (text "," ++ numberText (cell t (i * 9 + 6))))) f)
+values-one r n e f = rw e (appends-as (sym (append-nil (text "," ++ numberText (r .a)))) f)
 
-pub values-two : {c d e : Cursor} {x y z : List ℕ} (t : List ℕ) (i n : ℕ) → n ≡ 2 → Appends (text "," ++ numberText (cell t (i * 9 + 6))) c x d y → Appends (text "," ++ numberText (cell t (i * 9 + 7))) d y e z → Appends (eachText (take n (valueCells t i))) c x e z
+pub values-two : {c d e : Cursor} {x y z : List ℕ} (r : ErrorRow) (n : ℕ) → n ≡ 2 → Appends (text "," ++ numberText (r .a)) c x d y → Appends (text "," ++ numberText (r .b)) d y e z → Appends (eachText (take n (valueCells r))) c x e z
 unfolding eachText
-values-two t i n e f g = rw e (then f (appends-as (sym (append-nil (text "," ++ numberText (cell t (i * 9 + 7))))) g))
+values-two r n e f g = rw e (then f (appends-as (sym (append-nil (text "," ++ numberText (r .b)))) g))
 
-pub values-three : {c d e v : Cursor} {x y z w : List ℕ} (t : List ℕ) (i n : ℕ) → (n ≡ 0 → ⊥) → (n ≡ 1 → ⊥) → (n ≡ 2 → ⊥) → Appends (text "," ++ numberText (cell t (i * 9 + 6))) c x d y → Appends (text "," ++ numberText (cell t (i * 9 + 7))) d y e z → Appends (text "," ++ numberText (cell t (i * 9 + 8))) e z v w → Appends (eachText (take n (valueCells t i))) c x v w
+pub values-three : {c d e v : Cursor} {x y z w : List ℕ} (r : ErrorRow) (n : ℕ) → (n ≡ 0 → ⊥) → (n ≡ 1 → ⊥) → (n ≡ 2 → ⊥) → Appends (text "," ++ numberText (r .a)) c x d y → Appends (text "," ++ numberText (r .b)) d y e z → Appends (text "," ++ numberText (r .c)) e z v w → Appends (eachText (take n (valueCells r))) c x v w
 unfolding eachText
-values-three t i zero p q r f g h = absurd (p refl)
-values-three t i (suc zero) p q r f g h = absurd (q refl)
-values-three t i (suc (suc zero)) p q r f g h = absurd (r refl)
-values-three t i (suc (suc (suc n))) p q r f g h = then f (then g (appends-as (ap (λ l. text "," ++ numberText (cell t (i * 9 + 8)) ++ eachText l) (sym (take-nil n)) ∙ refl) (appends-as (sym (append-nil (text "," ++ numberText (cell t (i * 9 + 8))))) h)))
+values-three r zero p q k f g h = absurd (p refl)
+values-three r (suc zero) p q k f g h = absurd (q refl)
+values-three r (suc (suc zero)) p q k f g h = absurd (k refl)
+values-three r (suc (suc (suc n))) p q k f g h = then f (then g (appends-as (ap (λ l. text "," ++ numberText (r .c) ++ eachText l) (sym (take-nil n)) ∙ refl) (appends-as (sym (append-nil (text "," ++ numberText (r .c)))) h)))
 
 -- the line of an error
-pub error-line : {c d e v w u : Cursor} {x y z a b o : List ℕ} (t : List ℕ) (i k n q : ℕ) → k ≡ cell t (i * 9) → n ≡ kindNumber (kindAt k) → q ≡ valueCount (kindAt k) → Appends (text "error=" ++ numberText n) c x d y → Appends (text "," ++ numberText (cell t (i * 9 + 1))) d y e z → Appends (placeText (errorIn t i)) e z v a → Appends (eachText (take q (valueCells t i))) v a w b → Appends newline w b u o → Appends (errorLine t i) c x u o
-unfolding errorLine errorText errorIn
-error-line t i k n q p r l f g h m o =
-    then (then (then (then (appends-as (ap (λ j. text "error=" ++ numberText j) (r ∙ ap (λ j. kindNumber (kindAt j)) p)) f) g) h) (appends-as (ap eachText (ap (λ j. take j (valueCells t i)) (l ∙ ap (λ j. valueCount (kindAt j)) p) ∙ values-as (kindAt (cell t (i * 9))) (cell t (i * 9 + 6)) (cell t (i * 9 + 7)) (cell t (i * 9 + 8)))) m)) o
+pub error-line : {c d e v w u : Cursor} {x y z a b o : List ℕ} (r : ErrorRow) (n q : ℕ) → n ≡ kindNumber (kindAt (r .kind)) → q ≡ valueCount (kindAt (r .kind)) → Appends (text "error=" ++ numberText n) c x d y → Appends (text "," ++ numberText (r .cause)) d y e z → Appends (placeText (errorOf r)) e z v a → Appends (eachText (take q (valueCells r))) v a w b → Appends newline w b u o → Appends (errorLine r) c x u o
+unfolding errorLine errorText errorOf
+error-line r n q k l f g h m o =
+    then (then (then (then (appends-as (ap (λ j. text "error=" ++ numberText j) k) f) g) h) (appends-as (ap eachText (ap (λ j. take j (valueCells r)) l ∙ values-as (kindAt (r .kind)) (r .a) (r .b) (r .c))) m)) o

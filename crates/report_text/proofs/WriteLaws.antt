@@ -12,6 +12,8 @@ use Rattle.type_table.specs.declared.NodeId.{NodeId}
 use Rattle.answers.specs.declared.Answer.{Answer}
 use Rattle.answers.specs.declared.Answer.the-variants as answer
 use Rattle.answers.specs.declared.Totals.{Totals}
+use Rattle.answers.specs.Lent.{errorsUsed}
+use Rattle.errors.specs.Rows.{rowIn}
 use Rattle.output.specs.declared.Cursor.{Cursor}
 use Rattle.output.specs.declared.Cursor.the-variants.{At, Full}
 use Rattle.output.specs.Output.{Appends, Finishes, Output, output, ended, zeros}
@@ -21,32 +23,32 @@ use Rattle.report_text.specs.declared.Reported.{Reported}
 use Rattle.report_text.specs.declared.Reported.the-variants.{Written, NoRoom}
 use Rattle.report_text.specs.Written.{textOf, Said, said, written}
 
-module _ (nodes vars types errors : List ℕ) {x y : List ℕ} {d : Cursor} where
+module _ (nodes vars types m : List ℕ) {x y : List ℕ} {d : Cursor} where
   -- ── by the answer ──
 
   -- a body that was checked
-  pub text-checked : {a : Answer} {n : Totals} → a ≡ answer.Checked n → Appends (textOf (answer.Checked n) nodes vars types errors) (At 0) x d y → Appends (textOf a nodes vars types errors) (At 0) x d y
-  text-checked e p = appends-as (ap (λ a. textOf a nodes vars types errors) (sym e)) p
+  pub text-checked : {a : Answer} {n : Totals} → a ≡ answer.Checked n → Appends (textOf (answer.Checked n) nodes vars types (rowIn m (n .errors))) (At 0) x d y → Appends (textOf a nodes vars types (rowIn m (errorsUsed a))) (At 0) x d y
+  text-checked e p = appends-as (ap (λ a. textOf a nodes vars types (rowIn m (errorsUsed a))) (sym e)) p
 
   -- 1
-  pub text-long : {a : Answer} → a ≡ answer.TooLong → Appends (answerLine 1 none) (At 0) x d y → Appends (textOf a nodes vars types errors) (At 0) x d y
+  pub text-long : {a : Answer} → a ≡ answer.TooLong → Appends (answerLine 1 none) (At 0) x d y → Appends (textOf a nodes vars types (rowIn m (errorsUsed a))) (At 0) x d y
   unfolding textOf
-  text-long e p = appends-as (sym (append-nil _) ∙ ap (λ a. textOf a nodes vars types errors) (sym e)) p
+  text-long e p = appends-as (sym (append-nil _) ∙ ap (λ a. textOf a nodes vars types (rowIn m (errorsUsed a))) (sym e)) p
 
   -- 2
-  pub text-short : {a : Answer} → a ≡ answer.ShortTable → Appends (answerLine 2 none) (At 0) x d y → Appends (textOf a nodes vars types errors) (At 0) x d y
+  pub text-short : {a : Answer} → a ≡ answer.ShortTable → Appends (answerLine 2 none) (At 0) x d y → Appends (textOf a nodes vars types (rowIn m (errorsUsed a))) (At 0) x d y
   unfolding textOf
-  text-short e p = appends-as (sym (append-nil _) ∙ ap (λ a. textOf a nodes vars types errors) (sym e)) p
+  text-short e p = appends-as (sym (append-nil _) ∙ ap (λ a. textOf a nodes vars types (rowIn m (errorsUsed a))) (sym e)) p
 
   -- 3 to 6
-  pub text-refused : {a : Answer} {f : Fault} {l k : ℕ} → a ≡ answer.Refused f l → k ≡ faultNumber f → Appends (answerLine k (some l)) (At 0) x d y → Appends (textOf a nodes vars types errors) (At 0) x d y
+  pub text-refused : {a : Answer} {f : Fault} {l k : ℕ} → a ≡ answer.Refused f l → k ≡ faultNumber f → Appends (answerLine k (some l)) (At 0) x d y → Appends (textOf a nodes vars types (rowIn m (errorsUsed a))) (At 0) x d y
   unfolding textOf
-  text-refused {l = l} e q p = appends-as (ap (λ k. answerLine k (some l)) q ∙ sym (append-nil _) ∙ ap (λ a. textOf a nodes vars types errors) (sym e)) p
+  text-refused {l = l} e q p = appends-as (ap (λ k. answerLine k (some l)) q ∙ sym (append-nil _) ∙ ap (λ a. textOf a nodes vars types (rowIn m (errorsUsed a))) (sym e)) p
 
   -- 10 to 13
-  pub text-declined : {a : Answer} {k : ℕ} {n : NodeId} → a ≡ answer.Declined k n → Appends (answerLine k (some (n .0))) (At 0) x d y → Appends (textOf a nodes vars types errors) (At 0) x d y
+  pub text-declined : {a : Answer} {k : ℕ} {n : NodeId} → a ≡ answer.Declined k n → Appends (answerLine k (some (n .0))) (At 0) x d y → Appends (textOf a nodes vars types (rowIn m (errorsUsed a))) (At 0) x d y
   unfolding textOf
-  text-declined e p = appends-as (sym (append-nil _) ∙ ap (λ a. textOf a nodes vars types errors) (sym e)) p
+  text-declined e p = appends-as (sym (append-nil _) ∙ ap (λ a. textOf a nodes vars types (rowIn m (errorsUsed a))) (sym e)) p
 
 -- ── by the room ──
 

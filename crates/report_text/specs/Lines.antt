@@ -16,8 +16,10 @@ use Rattle.record.specs.declared.Span.{Span}
 use Rattle.record.specs.declared.Span.the-variants as span
 use Rattle.record.specs.declared.Second.{Second}
 use Rattle.record.specs.declared.Second.the-variants as second
-use Rattle.record.specs.declared.ErrorRow.{ErrorRow}
-use Rattle.record.specs.Own.{flagged, extraOf, kindNumber, kindAt, spanOf, secondOf}
+use Rattle.record.specs.declared.TypingError.{TypingError}
+use Rattle.record.specs.Own.{flagged, extraOf, kindNumber}
+use Rattle.errors.specs.declared.ErrorRow.{ErrorRow}
+use Rattle.errors.specs.Rows.{errorOf}
 use Rattle.tables.specs.Rows.{cellsTo}
 use Rattle.tables.specs.Types.{inputs-from}
 use Rattle.tables.specs.Read.{cellsAt, madeAt}
@@ -150,24 +152,12 @@ valuesOf error.NotInstance a b c = a ∷ []
 valuesOf error.MethodNotFound a b c = a ∷ b ∷ []
 valuesOf error.InferFail a b c = []
 
--- the error i of a table
-unfoldable pub errorIn : List ℕ → ℕ → ErrorRow
-errorIn t i = record {
-  kind = kindAt (cell t (i * 9));
-  cause = cell t (i * 9 + 1);
-  at = spanOf (cell t (i * 9 + 2)) (cell t (i * 9 + 3));
-  second = secondOf (cell t (i * 9 + 4)) (cell t (i * 9 + 5));
-  a = cell t (i * 9 + 6);
-  b = cell t (i * 9 + 7);
-  c = cell t (i * 9 + 8);
-}
-
 -- P and Q
-abbrev pub placeText : ErrorRow → List ℕ
+abbrev pub placeText : TypingError → List ℕ
 placeText e = (text "," ++ spanText (e .at)) ++ (text "," ++ secondText (e .second))
 
 -- the line of an error: KIND is the variant's position in `TypingError` from 0
-unfoldable pub errorText : ErrorRow → List ℕ
+unfoldable pub errorText : TypingError → List ℕ
 errorText e =
     text "error=" ++ numberText (kindNumber (e .kind))
     ++ (text "," ++ numberText (e .cause))
@@ -175,18 +165,18 @@ errorText e =
     ++ eachText (valuesOf (e .kind) (e .a) (e .b) (e .c))
     ++ newline
 
--- the line of the error i
-unfoldable pub errorLine : List ℕ → ℕ → List ℕ
-errorLine t i = errorText (errorIn t i)
+-- the line of a row
+unfoldable pub errorLine : ErrorRow → List ℕ
+errorLine r = errorText (errorOf r)
 
--- n errors
-unfoldable pub errorLines : List ℕ → ℕ → List ℕ
-errorLines t n = text "errors=" ++ numberText n ++ newline ++ cellsTo (errorLine t) n
+-- n errors, by their rows
+unfoldable pub errorLines : (ℕ → ErrorRow) → ℕ → List ℕ
+errorLines f n = text "errors=" ++ numberText n ++ newline ++ cellsTo (λ i. errorLine (f i)) n
 
 -- ── a body that was checked ──
 
--- behind the answer: t made types, v variables, n nodes and e errors of these tables
-unfoldable pub tablesText : ℕ → ℕ → ℕ → ℕ → List ℕ → List ℕ → List ℕ → List ℕ → List ℕ
+-- behind the answer: t made types, v variables, n nodes and e errors of these tables and rows
+unfoldable pub tablesText : ℕ → ℕ → ℕ → ℕ → List ℕ → List ℕ → List ℕ → (ℕ → ErrorRow) → List ℕ
 tablesText t v n e nodes vars types errors = typeLines types t ++ varLines vars v ++ nodeLines nodes n ++ errorLines errors e
 
 -- ── what the code writes ──
@@ -199,6 +189,6 @@ lambdaText t i = text "type=lambda," ++ numberText (cell t (i * 5 + 1)) ++ (text
 abbrev pub valueCount : ErrorKind → ℕ
 valueCount k = length (valuesOf k 0 0 0)
 
--- the three cells for the values of the error i
-abbrev pub valueCells : List ℕ → ℕ → List ℕ
-valueCells t i = cell t (i * 9 + 6) ∷ cell t (i * 9 + 7) ∷ cell t (i * 9 + 8) ∷ []
+-- the three numbers of a row for its values
+abbrev pub valueCells : ErrorRow → List ℕ
+valueCells r = r .a ∷ r .b ∷ r .c ∷ []

@@ -1,4 +1,4 @@
-// The lines of document 01's report, from the lent tables of `check` into a lent output.
+// The lines of document 01's report, from the lent tables of `check` and the memory of its walk into a lent output.
 ghost use mathlib.Core.Path.{_≡_};
 ghost use mathlib.Core.List.{_++_};
 ghost use mathlib.Core.Option.{none, some};
@@ -8,13 +8,16 @@ ghost use Rattle.body.specs.Body.{faultNumber};
 ghost use Rattle.answers.specs.declared.Answer.the-variants.{Checked};
 ghost use Rattle.lex.specs.Text.{text};
 ghost use Rattle.record.specs.Own.{extraOf, kindAt, spanOf, secondOf};
+ghost use Rattle.errors.specs.Rows.{errorOf, rowIn};
+ghost use Rattle.answers.specs.Lent.{errorsUsed};
 ghost use Rattle.tables.specs.Read.{cellsAt, madeAt};
 ghost use Rattle.output.specs.declared.Cursor.the-variants.{At};
 ghost use Rattle.output.specs.Output.{Appends, numberText};
-ghost use Rattle.report_text.specs.Lines.{optionText, optionAt, eachText, answerLine, typeText, typeLine, typeLines, kindText, varLine, varLines, extraText, nodeLine, nodeLines, spanText, secondText, errorIn, errorLine, errorLines, tablesText, lambdaText, placeText, valueCount, valueCells};
+ghost use Rattle.report_text.specs.Lines.{optionText, optionAt, eachText, answerLine, typeText, typeLine, typeLines, kindText, varLine, varLines, extraText, nodeLine, nodeLines, spanText, secondText, errorLine, errorLines, tablesText, lambdaText, placeText, valueCount, valueCells};
 ghost use Rattle.report_text.specs.Written.{textOf, said, written};
 use answers::Answer;
 use answers::Totals;
+use errors::ErrorRow;
 use forms::Fault;
 use output::Cursor;
 
@@ -255,57 +258,55 @@ fn values(k: u16) -> u16
     }
 }
 
-// The values of the error i, n of them.
-fn put_values(out: &mut [u8], c: Cursor, t: &[u16], i: u16, n: u16) -> Cursor
-    ensures { λ r. ⌜ Appends (eachText (take n (valueCells (now (t .entry)) i))) c (now (out .entry)) r (now (out .exit)) ⌝ }
+// The first n values of a row.
+fn put_values(out: &mut [u8], c: Cursor, r: ErrorRow, n: u16) -> Cursor
+    ensures { λ d. ⌜ Appends (eachText (take n (valueCells r))) c (now (out .entry)) d (now (out .exit)) ⌝ }
 {
-    let at = i as usize * 9;
     if n == 0 {
         return c;
     }
-    let a = put_cell(out, c, t, at + 6);
+    let a = output::put_field(out, c, b",", r.a as usize);
     if n == 1 {
         return a;
     }
-    let b = put_cell(out, a, t, at + 7);
+    let b = output::put_field(out, a, b",", r.b as usize);
     if n == 2 {
         return b;
     }
-    put_cell(out, b, t, at + 8)
+    output::put_field(out, b, b",", r.c as usize)
 }
 
-// P and Q of the error i.
-fn put_place(out: &mut [u8], c: Cursor, t: &[u16], i: u16) -> Cursor
-    ensures { λ r. ⌜ Appends (placeText (errorIn (now (t .entry)) i)) c (now (out .entry)) r (now (out .exit)) ⌝ }
+// P and Q of a row.
+fn put_place(out: &mut [u8], c: Cursor, r: ErrorRow) -> Cursor
+    ensures { λ d. ⌜ Appends (placeText (errorOf r)) c (now (out .entry)) d (now (out .exit)) ⌝ }
 {
-    let at = i as usize * 9;
-    let p = refs::at(t, at + 2);
-    let d = put_span(out, c, p, refs::at(t, at + 3) as usize);
-    let q = refs::at(t, at + 4);
-    put_second(out, d, q, refs::at(t, at + 5) as usize)
+    let p = r.span;
+    let q = r.between;
+    let d = put_span(out, c, p, r.at as usize);
+    put_second(out, d, q, r.second as usize)
 }
 
-// The error i.
-fn put_error(out: &mut [u8], c: Cursor, t: &[u16], i: u16) -> Cursor
-    ensures { λ r. ⌜ Appends (errorLine (now (t .entry)) i) c (now (out .entry)) r (now (out .exit)) ⌝ }
+// An error, by its row.
+pub fn put_error(out: &mut [u8], c: Cursor, r: ErrorRow) -> Cursor
+    ensures { λ d. ⌜ Appends (errorLine r) c (now (out .entry)) d (now (out .exit)) ⌝ }
 {
-    let at = i as usize * 9;
-    let k = refs::at(t, at);
-    let a = output::put_field(out, c, b"error=", tables::kind_number(k) as usize);
-    let b = put_cell(out, a, t, at + 1);
-    let d = put_place(out, b, t, i);
-    let e = put_values(out, d, t, i, values(k));
+    let k = r.kind;
+    let a = output::put_field(out, c, b"error=", errors::kind_number(k) as usize);
+    let b = output::put_field(out, a, b",", r.cause as usize);
+    let d = put_place(out, b, r);
+    let e = put_values(out, d, r, values(k));
     output::put(out, e, b'\n')
 }
 
-// How many errors there are, and each.
-fn put_errors(out: &mut [u8], c: Cursor, t: &[u16], n: u16) -> Cursor
-    ensures { λ r. ⌜ Appends (errorLines (now (t .entry)) n) c (now (out .entry)) r (now (out .exit)) ⌝ }
+// How many errors there are, and each, from the memory of the walk.
+fn put_errors(out: &mut [u8], c: Cursor, m: &[u16], n: u16) -> Cursor
+    ensures { λ r. ⌜ Appends (errorLines (rowIn (now (m .entry)) n) n) c (now (out .entry)) r (now (out .exit)) ⌝ }
 {
     let mut d = output::put_line(out, c, b"errors=", n as usize);
     let mut i: u16 = 0;
     while i < n {
-        d = put_error(out, d, t, i);
+        let r = errors::error_row(m, n, i as usize);
+        d = put_error(out, d, r);
         i += 1;
     }
     d
@@ -342,14 +343,14 @@ fn put_tables(
     nodes: &[u16],
     vars: &[u16],
     types: &[u16],
-    errors: &[u16],
+    m: &[u16],
 ) -> Cursor
-    ensures { λ r. ⌜ Appends (tablesText t v n e (now (nodes .entry)) (now (vars .entry)) (now (types .entry)) (now (errors .entry))) c (now (out .entry)) r (now (out .exit)) ⌝ }
+    ensures { λ r. ⌜ Appends (tablesText t v n e (now (nodes .entry)) (now (vars .entry)) (now (types .entry)) (rowIn (now (m .entry)) e)) c (now (out .entry)) r (now (out .exit)) ⌝ }
 {
     let a = put_types(out, c, types, t);
     let b = put_vars(out, a, vars, v);
     let d = put_nodes(out, b, nodes, n);
-    put_errors(out, d, errors, e)
+    put_errors(out, d, m, e)
 }
 
 // ── by the answer ──
@@ -373,31 +374,31 @@ fn put_checked(
     nodes: &[u16],
     vars: &[u16],
     types: &[u16],
-    errors: &[u16],
+    m: &[u16],
 ) -> Cursor
-    ensures { λ r. ⌜ Appends (textOf (Checked n) (now (nodes .entry)) (now (vars .entry)) (now (types .entry)) (now (errors .entry))) (At 0) (now (out .entry)) r (now (out .exit)) ⌝ }
+    ensures { λ r. ⌜ Appends (textOf (Checked n) (now (nodes .entry)) (now (vars .entry)) (now (types .entry)) (rowIn (now (m .entry)) (n .errors))) (At 0) (now (out .entry)) r (now (out .exit)) ⌝ }
 {
     let k = n.declared.nodes;
     let t = n.types;
     let v = n.vars;
     let e = n.errors;
     let c = put_answer(out, 0);
-    put_tables(out, c, t, v, k, e, nodes, vars, types, errors)
+    put_tables(out, c, t, v, k, e, nodes, vars, types, m)
 }
 
-// The report of an answer and its tables.
+// The report of an answer and its tables, the errors from the memory of the walk.
 fn put_report(
     out: &mut [u8],
     a: Answer,
     nodes: &[u16],
     vars: &[u16],
     types: &[u16],
-    errors: &[u16],
+    m: &[u16],
 ) -> Cursor
-    ensures { λ r. ⌜ Appends (textOf a (now (nodes .entry)) (now (vars .entry)) (now (types .entry)) (now (errors .entry))) (At 0) (now (out .entry)) r (now (out .exit)) ⌝ }
+    ensures { λ r. ⌜ Appends (textOf a (now (nodes .entry)) (now (vars .entry)) (now (types .entry)) (rowIn (now (m .entry)) (errorsUsed a))) (At 0) (now (out .entry)) r (now (out .exit)) ⌝ }
 {
     match a {
-        Answer::Checked(n) => put_checked(out, n, nodes, vars, types, errors),
+        Answer::Checked(n) => put_checked(out, n, nodes, vars, types, m),
         Answer::TooLong => put_answer(out, 1),
         Answer::ShortTable => put_answer(out, 2),
         Answer::Refused(f, l) => put_refusal(out, fault_number(f), l),
@@ -405,18 +406,19 @@ fn put_report(
     }
 }
 
-// The report of an answer into an output of any length.
+// The report of an answer and its tables into an output of any length; the errors are read from the memory of the walk, from which they are handed
+// back too.
 pub fn write_report(
     out: &mut [u8],
     a: Answer,
     nodes: &[u16],
     vars: &[u16],
     types: &[u16],
-    errors: &[u16],
+    m: &[u16],
 ) -> Reported
-    ensures { λ r. ⌜ said r (now (out .exit)) ≡ written a (textOf a (now (nodes .entry)) (now (vars .entry)) (now (types .entry)) (now (errors .entry))) (now (out .entry)) ⌝ }
+    ensures { λ r. ⌜ said r (now (out .exit)) ≡ written a (textOf a (now (nodes .entry)) (now (vars .entry)) (now (types .entry)) (rowIn (now (m .entry)) (errorsUsed a))) (now (out .entry)) ⌝ }
 {
-    let c = put_report(out, a, nodes, vars, types, errors);
+    let c = put_report(out, a, nodes, vars, types, m);
     match output::finish(out, c) {
         Cursor::At(n) => Reported::Written(a, n),
         Cursor::Full => Reported::NoRoom(a),

@@ -12,7 +12,7 @@ ghost use Rattle.resolve.specs.Body.{BodyTyped};
 use nodes::Items;
 use record::Equated;
 use record::ErrorKind;
-use record::ErrorRow;
+use record::TypingError;
 use record::Given;
 use record::NodeType;
 use record::Record;
@@ -118,7 +118,7 @@ fn result(m: &mut [u16], c: Record, n: NodeId, y: TypeId) -> Ruled
         c,
         x,
         y,
-        ErrorRow {
+        TypingError {
             kind: ErrorKind::TypeMismatch,
             cause: 0,
             at: Span::Signature,
@@ -176,7 +176,7 @@ fn open_type(m: &mut [u16], c: Record, v: VarId) -> Given
             let r = record::emit(
                 m,
                 c,
-                ErrorRow {
+                TypingError {
                     kind: ErrorKind::InferFail,
                     cause: 0,
                     at: Span::Node(p),

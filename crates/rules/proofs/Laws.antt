@@ -34,7 +34,7 @@ use Rattle.record.specs.declared.Typed.{Typed}
 use Rattle.record.specs.declared.Ruled.{Ruled}
 use Rattle.record.specs.declared.Extra.the-variants as extra
 use Rattle.record.specs.declared.Span.{Span}
-use Rattle.record.specs.declared.ErrorRow.{ErrorRow}
+use Rattle.record.specs.declared.TypingError.{TypingError}
 use Rattle.record.specs.declared.ErrorKind.the-variants as error·K
 use Rattle.record.specs.Own.{rawsOf, nodeType}
 use Rattle.record.specs.Steps.{fn-def, instance, ref-to, make-lambda, mark-var, error, equation, set-extra, set-node-type, new-infer-var, array-of, drawn-by, for-each}
@@ -45,7 +45,7 @@ use Rattle.rules.specs.Rules.{lambda-param-at, lambda-params, nil-type, 
 
 -- ── equations ──
 
-module _ {m m′ : List ℕ} {c d : Record} (n x y : ℕ) (e : ErrorRow) where
+module _ {m m′ : List ℕ} {c d : Record} (n x y : ℕ) (e : TypingError) where
   -- whether it is met or not, the rule gives its type
   pub equated-for : (t : ℕ) {q : Bool} → Runs m c m′ d (equation n x y e) q → Runs m c m′ d (equate-for n x y e t) t
   unfolding equate-for
@@ -68,7 +68,7 @@ module _ {m m′ : List ℕ} {c d : Record} (n x y : ℕ) (e : ErrorRow) where
 
 -- ── operators ──
 
-module _ {m m′ : List ℕ} {c d : Record} (n l r x y : ℕ) (o : BinOp) (e : ErrorRow) (is : e ≡ between error·K.NoBinaryOp l r x y) where
+module _ {m m′ : List ℕ} {c d : Record} (n l r x y : ℕ) (o : BinOp) (e : TypingError) (is : e ≡ between error·K.NoBinaryOp l r x y) where
   -- a met equation of operands gives the type of the operation
   pub bin-met : (t : ℕ) → t ≡ bin-type o x → Runs m c m′ d (equation n x y e) true → Runs m c m′ d (bin-op n o l r x y) t
   unfolding bin-op
@@ -84,7 +84,7 @@ module _ {m m′ : List ℕ} {c d : Record} (n l r x y : ℕ) (o : BinOp) (e : E
   unfolding bin-op
   bin-refused k R = rw (← is) (stops _ R)
 
-module _ {m m′ : List ℕ} {c : Record} {z : Typed} (n x y : ℕ) (e : ErrorRow) where
+module _ {m m′ : List ℕ} {c : Record} {z : Typed} (n x y : ℕ) (e : TypingError) where
   -- an assignment
   pub assign-is : (v w : ℕ) → e ≡ between error·K.TypeMismatch v w x y → Types m c m′ z (equate-for n x y e nil-type) → Types m c m′ z (assign n v w x y)
   unfolding assign
@@ -101,12 +101,12 @@ module _ {m m′ : List ℕ} {c : Record} {z : Typed} (n x y : ℕ) (e : ErrorRo
   branches-is w h R = rw (← h) R
 
 -- an index
-pub index-is : {m m′ : List ℕ} {c : Record} {z : Typed} (n t y : ℕ) (e : ErrorRow) → e ≡ mismatch error·K.TypeMismatch (at n) u64-type y 0 → Types m c m′ z (equate-for n u64-type y e t) → Types m c m′ z (index n t y)
+pub index-is : {m m′ : List ℕ} {c : Record} {z : Typed} (n t y : ℕ) (e : TypingError) → e ≡ mismatch error·K.TypeMismatch (at n) u64-type y 0 → Types m c m′ z (equate-for n u64-type y e t) → Types m c m′ z (index n t y)
 unfolding index
 index-is n t y e h R = rw (← h) R
 
 -- a later element of a list
-pub element-is : {m m′ : List ℕ} {c : Record} {z : Ruled} (n i x y : ℕ) (e : ErrorRow) → e ≡ mismatch error·K.TypeMismatch (at i) x y 0 → Rules m c m′ z (equate-on n x y e) → Rules m c m′ z (element n i x y)
+pub element-is : {m m′ : List ℕ} {c : Record} {z : Ruled} (n i x y : ℕ) (e : TypingError) → e ≡ mismatch error·K.TypeMismatch (at i) x y 0 → Rules m c m′ z (equate-on n x y e) → Rules m c m′ z (element n i x y)
 unfolding element
 element-is n i x y e h R = rw (← h) R
 
@@ -264,7 +264,7 @@ unfolding condition
 condition-other e x h R = rw (ne-eqb x 1 h) R
 
 -- a return against the output of the function
-pub returned-is : {m m′ : List ℕ} {c : Record} (n p y : ℕ) (e : ErrorRow) {r : Typed} → e ≡ mismatch error·K.TypeMismatch (at p) (c .output .0) y 0 → Types m c m′ r (equate-for n (c .output .0) y e diverges-type) → Types m c m′ r (returned n p y)
+pub returned-is : {m m′ : List ℕ} {c : Record} (n p y : ℕ) (e : TypingError) {r : Typed} → e ≡ mismatch error·K.TypeMismatch (at p) (c .output .0) y 0 → Types m c m′ r (equate-for n (c .output .0) y e diverges-type) → Types m c m′ r (returned n p y)
 unfolding returned
 returned-is n p y e h R = after _ runs-output (rw (← h) R)
 
@@ -286,13 +286,13 @@ module _ {m m₁ m′ : List ℕ} {c : Record} where
   pub let-init : (n : ℕ) (t : MaybeType) (y : TypeId) → t ≡ type.Absent → Runs m c m₁ c (set-extra n (extra.Local y)) tt → Runs m₁ c m′ c (set-node-type n (y .0)) tt → Runs m c m′ c (let-with-init n t (y .0)) tt
   let-init n t y h X T = rw h (local-is n y y X T)
 
-module _ {m m₁ m′ : List ℕ} {c d : Record} (n : ℕ) (x y : TypeId) (e : ErrorRow) (is : e ≡ mismatch error·K.TypeMismatch (at n) (x .0) (y .0) 0) where
+module _ {m m₁ m′ : List ℕ} {c d : Record} (n : ℕ) (x y : TypeId) (e : TypingError) (is : e ≡ mismatch error·K.TypeMismatch (at n) (x .0) (y .0) 0) where
   -- a let with both: its equation was met, or it failed
   pub let-both : {m₂ : List ℕ} {q : Bool} → Runs m c m₁ d (equation n (x .0) (y .0) e) q → Runs m₁ d m₂ d (set-extra n (extra.Local y)) tt → Runs m₂ d m′ d (set-node-type n (x .0)) tt → Runs m c m′ d (let-with-init n (type.Of x) (y .0)) tt
   let-both E X T = rw (← is) (then _ E (local-is n y x X T))
 
 -- a let with both whose equation is refused
-pub let-refused : {m m′ : List ℕ} {c d : Record} (n k : ℕ) (x y : TypeId) (e : ErrorRow) → e ≡ mismatch error·K.TypeMismatch (at n) (x .0) (y .0) 0 → Stops m c m′ d (equation n (x .0) (y .0) e) k n → Stops m c m′ d (let-with-init n (type.Of x) (y .0)) k n
+pub let-refused : {m m′ : List ℕ} {c d : Record} (n k : ℕ) (x y : TypeId) (e : TypingError) → e ≡ mismatch error·K.TypeMismatch (at n) (x .0) (y .0) 0 → Stops m c m′ d (equation n (x .0) (y .0) e) k n → Stops m c m′ d (let-with-init n (type.Of x) (y .0)) k n
 let-refused n k x y e is E = rw (← is) (stops _ E)
 
 -- ── calls ──
@@ -339,7 +339,7 @@ module _ (rows cells : List ℕ) {m : List ℕ} {c : Record} where
     amounts-wrong p f given k e t R = then _ runs-types (rw (← e, ne-eqb k given t) R)
 
     -- an argument that has an input
-    pub argument-there : (n i : ℕ) (p : Span) (f : Callee) (y : ℕ) (v : MaybeType) (x : TypeId) (w : ErrorRow) {r : Ruled} → v ≡ nth (inputsOf (rowsOf m (c .counts .types)) rows cells f) i → v ≡ type.Of x → w ≡ mismatch error·K.WrongArgumentTy p (x .0) y i → Rules m c m′ r (equate-on n (x .0) y w) → Rules m c m′ r (argument rows cells n p f i y)
+    pub argument-there : (n i : ℕ) (p : Span) (f : Callee) (y : ℕ) (v : MaybeType) (x : TypeId) (w : TypingError) {r : Ruled} → v ≡ nth (inputsOf (rowsOf m (c .counts .types)) rows cells f) i → v ≡ type.Of x → w ≡ mismatch error·K.WrongArgumentTy p (x .0) y i → Rules m c m′ r (equate-on n (x .0) y w) → Rules m c m′ r (argument rows cells n p f i y)
     unfolding argument
     argument-there n i p f y v x w e h is R = after-rules _ runs-types (rw (← e, h, ← is) R)
 
@@ -386,12 +386,12 @@ module _ {m m′ : List ℕ} {c d : Record} where
   output-drawn n v t h D = rw h (then _ D runs-done)
 
   -- a body that was met or not, and then the type
-  pub lambda-made : {m₁ : List ℕ} (cells : List ℕ) (n e o y : ℕ) (t : Items) (w : ErrorRow) {r : Typed} → w ≡ mismatch error·K.TypeMismatch (at e) o y 0 → Runs m c m₁ d (equate-on n o y w) tt → Types m₁ d m′ r (make-lambda n o (itemsOf cells t)) → Types m c m′ r (lambda cells n e o y t)
+  pub lambda-made : {m₁ : List ℕ} (cells : List ℕ) (n e o y : ℕ) (t : Items) (w : TypingError) {r : Typed} → w ≡ mismatch error·K.TypeMismatch (at e) o y 0 → Runs m c m₁ d (equate-on n o y w) tt → Types m₁ d m′ r (make-lambda n o (itemsOf cells t)) → Types m c m′ r (lambda cells n e o y t)
   unfolding lambda
   lambda-made cells n e o y t w is E L = rw (← is) (after _ E L)
 
   -- a refused one
-  pub lambda-refused : (cells : List ℕ) (n e o y k p : ℕ) (t : Items) (w : ErrorRow) → w ≡ mismatch error·K.TypeMismatch (at e) o y 0 → Stops m c m′ d (equate-on n o y w) k p → Stops m c m′ d (lambda cells n e o y t) k p
+  pub lambda-refused : (cells : List ℕ) (n e o y k p : ℕ) (t : Items) (w : TypingError) → w ≡ mismatch error·K.TypeMismatch (at e) o y 0 → Stops m c m′ d (equate-on n o y w) k p → Stops m c m′ d (lambda cells n e o y t) k p
   unfolding lambda
   lambda-refused cells n e o y k p t w is E = rw (← is) (stops _ E)
 

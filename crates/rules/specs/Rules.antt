@@ -31,7 +31,7 @@ use Rattle.record.specs.declared.ErrorKind.the-variants as error·K
 use Rattle.record.specs.declared.Span.{Span}
 use Rattle.record.specs.declared.Span.the-variants as span
 use Rattle.record.specs.declared.Second.the-variants as second
-use Rattle.record.specs.declared.ErrorRow.{ErrorRow}
+use Rattle.record.specs.declared.TypingError.{TypingError}
 use Rattle.record.specs.Steps.{Walk, Step, set-node-type, set-extra, node-type, shape-of, all-types, output, drawn-by, new-infer-var, array-of, ref-to, fn-def, instance, make-lambda, mark-var, error, equation, for-each}
 
 -- ── the fields of `Types` that rules name ──
@@ -63,25 +63,25 @@ abbrev pub at : ℕ → Span
 at n = span.Node (record { 0 = n })
 
 -- an error that no equation raised
-abbrev pub own-error : ErrorKind → Span → ℕ → ℕ → ErrorRow
+abbrev pub own-error : ErrorKind → Span → ℕ → ℕ → TypingError
 own-error k p x y = record { kind = k; cause = 0; at = p; second = second.Absent; a = x; b = y; c = 0 }
 
 -- the error of an equation of x and y; i is the position of an argument
-abbrev pub mismatch : ErrorKind → Span → ℕ → ℕ → ℕ → ErrorRow
+abbrev pub mismatch : ErrorKind → Span → ℕ → ℕ → ℕ → TypingError
 mismatch k p x y i = record { kind = k; cause = 0; at = p; second = second.Absent; a = x; b = y; c = i }
 
 -- the same, between two nodes
-abbrev pub between : ErrorKind → ℕ → ℕ → ℕ → ℕ → ErrorRow
+abbrev pub between : ErrorKind → ℕ → ℕ → ℕ → ℕ → TypingError
 between k p q x y = record { kind = k; cause = 0; at = at p; second = second.At (record { 0 = q }); a = x; b = y; c = 0 }
 
 -- an equation in the rule of the node n, after which the rule gives the type t
-unfoldable pub equate-for : ℕ → ℕ → ℕ → ErrorRow → ℕ → Walk ℕ
+unfoldable pub equate-for : ℕ → ℕ → ℕ → TypingError → ℕ → Walk ℕ
 equate-for n x y e t = do
   _ ← equation n x y e
   done t
 
 -- an equation after which the rule goes on
-unfoldable pub equate-on : ℕ → ℕ → ℕ → ErrorRow → Step
+unfoldable pub equate-on : ℕ → ℕ → ℕ → TypingError → Step
 equate-on n x y e = do
   _ ← equation n x y e
   done tt

@@ -19,7 +19,7 @@ use nodes::Res;
 use nodes::UnOp;
 use record::Equated;
 use record::ErrorKind;
-use record::ErrorRow;
+use record::TypingError;
 use record::Extra;
 use record::Given;
 use record::NodeType;
@@ -65,7 +65,7 @@ fn own_error(m: &mut [u16], c: Record, k: ErrorKind, p: Span, a: u16, b: u16) ->
     record::emit(
         m,
         c,
-        ErrorRow {
+        TypingError {
             kind: k,
             cause: 0,
             at: p,
@@ -78,12 +78,12 @@ fn own_error(m: &mut [u16], c: Record, k: ErrorKind, p: Span, a: u16, b: u16) ->
 }
 
 // The error of an equation of x and y at one node.
-fn mismatch(k: ErrorKind, p: Span, x: TypeId, y: TypeId, i: u16) -> ErrorRow
+fn mismatch(k: ErrorKind, p: Span, x: TypeId, y: TypeId, i: u16) -> TypingError
     ensures { λ r. ⌜ r ≡ Rattle.rules.specs.Rules.mismatch k p (x .0) (y .0) i ⌝ }
 {
     let a = x.0;
     let b = y.0;
-    ErrorRow {
+    TypingError {
         kind: k,
         cause: 0,
         at: p,
@@ -95,12 +95,12 @@ fn mismatch(k: ErrorKind, p: Span, x: TypeId, y: TypeId, i: u16) -> ErrorRow
 }
 
 // The same, between two nodes.
-fn between(k: ErrorKind, p: NodeId, q: NodeId, x: TypeId, y: TypeId) -> ErrorRow
+fn between(k: ErrorKind, p: NodeId, q: NodeId, x: TypeId, y: TypeId) -> TypingError
     ensures { λ r. ⌜ r ≡ Rattle.rules.specs.Rules.between k (p .0) (q .0) (x .0) (y .0) ⌝ }
 {
     let a = x.0;
     let b = y.0;
-    ErrorRow {
+    TypingError {
         kind: k,
         cause: 0,
         at: Span::Node(p),
@@ -118,7 +118,7 @@ fn equate_for(
     n: NodeId,
     x: TypeId,
     y: TypeId,
-    e: ErrorRow,
+    e: TypingError,
     t: TypeId,
 ) -> Typed
     ensures { λ r. ⌜ Types (now (m .entry)) c (now (m .exit)) r (equate-for (n .0) (x .0) (y .0) e (t .0)) ⌝ }
@@ -131,7 +131,7 @@ fn equate_for(
 }
 
 // An equation after which the rule goes on.
-fn equate_on(m: &mut [u16], c: Record, n: NodeId, x: TypeId, y: TypeId, e: ErrorRow) -> Ruled
+fn equate_on(m: &mut [u16], c: Record, n: NodeId, x: TypeId, y: TypeId, e: TypingError) -> Ruled
     ensures { λ r. ⌜ Rules (now (m .entry)) c (now (m .exit)) r (equate-on (n .0) (x .0) (y .0) e) ⌝ }
 {
     match record::equate(m, c, x, y, e) {

@@ -2,5 +2,4 @@ pub mod CellLaws
 pub mod NodeLaws
 pub mod VarLaws
 pub mod TypeLaws
-pub mod ErrorLaws
 pub mod LogLaws

@@ -2,7 +2,6 @@ pub mod Rows
 pub mod Nodes
 pub mod Vars
 pub mod Types
-pub mod Errors
 pub mod Log
 pub mod RowLaws
 pub mod Read

@@ -1,4 +1,4 @@
-// The tables that a check hands back, from the memory of a walk to the caller's lent slices: nodes, variables, made types, errors, equations.
+// The tables that a check hands back, from the memory of a walk to the caller's lent slices: nodes, variables, made types, equations.
 // The used rows come first, zeros behind them to the end of the slice. A flag is 0 or 1, and a number that is not there is 0. What does
 // not fit into a slice is left out.
 ghost use mathlib.Core.Path.{_≡_};
@@ -9,12 +9,11 @@ ghost use lib.Seq.{sets};
 ghost use Rattle.type_table.specs.Memory.{cell, inputsFrom};
 ghost use Rattle.type_table.specs.Made.{kindNumber as kindCode};
 ghost use Rattle.type_table.specs.Reads.{originMeant, boundMeant, widthMeant};
-ghost use Rattle.record.specs.Own.{extraOf, extraTag, extraValue, kindAt, kindNumber};
+ghost use Rattle.record.specs.Own.{extraOf, extraTag, extraValue};
 ghost use Rattle.tables.specs.Rows.{padded, zeros, cellsTo, flag, given, orZero, threeIn, Fills};
 ghost use Rattle.tables.specs.Nodes.{nodeTable, nodeRoom, optionIn, extraIn, nodeIn};
 ghost use Rattle.tables.specs.Vars.{varTable, varRoom, varIn};
 ghost use Rattle.tables.specs.Types.{inputs-from, typeTable, typeRoom, widthNumber, fields, fieldsOf, fieldsIn, fitted, typeIn, typeFrom, inputsIn};
-ghost use Rattle.tables.specs.Errors.{errorTable, errorRoom, kindIn, spanIn, secondIn, errorIn};
 ghost use Rattle.tables.specs.Log.{logTable, logRoom};
 use record::Record;
 use type_table::Bound;
@@ -472,78 +471,6 @@ pub fn fill_types(m: &[u16], c: Record, first: u16, t: &mut [u16])
     let d = c.counts;
     put_types(m, d, first, t);
     put_all_inputs(m, d, first, t);
-}
-
-// ── errors ──
-
-// KIND; what is no position counts as the last.
-pub fn kind_number(k: u16) -> u16
-    ensures { λ r. ⌜ r ≡ kindNumber (kindAt k) ⌝ }
-{
-    if k < 10 { k } else { 10 }
-}
-
-// KIND and CAUSE at f.
-fn kind_cells(m: &[u16], f: u32, t: &mut [u16], j: u32)
-    ensures { λ _. ⌜ now (t .exit) ≡ sets (now (t .entry)) j (kindIn (now (m .entry)) f) ⌝ }
-{
-    let i = f as usize;
-    let a = read(m, i);
-    let b = read(m, i + 1);
-    let k = kind_number(a);
-    put_two(t, j, k, b);
-}
-
-// P at f: the signature, which has no number, is tag 2.
-fn span_cells(m: &[u16], f: u32, t: &mut [u16], j: u32)
-    ensures { λ _. ⌜ now (t .exit) ≡ sets (now (t .entry)) j (spanIn (now (m .entry)) f) ⌝ }
-{
-    let i = f as usize;
-    let a = read(m, i);
-    let x = read(m, i + 1);
-    match a {
-        0 => put_two(t, j, 0, x),
-        1 => put_two(t, j, 1, x),
-        _ => put_two(t, j, 2, 0),
-    }
-}
-
-// Q at f: 0 and 0 where there is none.
-fn second_cells(m: &[u16], f: u32, t: &mut [u16], j: u32)
-    ensures { λ _. ⌜ now (t .exit) ≡ sets (now (t .entry)) j (secondIn (now (m .entry)) f) ⌝ }
-{
-    let i = f as usize;
-    if read(m, i) == 0 {
-        put_two(t, j, 0, 0);
-        return;
-    }
-    let x = read(m, i + 1);
-    put_two(t, j, 1, x);
-}
-
-// The row of the error i.
-fn error_row(m: &[u16], i: u16, t: &mut [u16])
-    ensures { λ _. ⌜ now (t .exit) ≡ sets (now (t .entry)) (i * 9) (errorIn (now (m .entry)) i) ⌝ }
-{
-    let j = i as u32 * 9;
-    let f = record::ERRORS_AT as u32 + j;
-    kind_cells(m, f, t, j);
-    span_cells(m, f + 2, t, j + 2);
-    second_cells(m, f + 4, t, j + 4);
-    three_cells(m, f + 6, t, j + 6);
-}
-
-// The errors, the oldest first: KIND, CAUSE, P's tag (0 node, 1 bind item, 2 signature) and number, Q's flag and number, three values.
-pub fn fill_errors(m: &[u16], c: Record, t: &mut [u16])
-    ensures { λ _. ⌜ Fills (now (m .entry)) c (errorRoom (length (now (t .entry)))) (λ s. padded (length (now (t .entry))) (errorTable (s .errs))) (now (t .exit)) ⌝ }
-{
-    let k = c.errors;
-    let mut i: u16 = 0;
-    while i < k {
-        error_row(m, i, t);
-        i += 1;
-    }
-    zero_from(t, k as usize * 9);
 }
 
 // ── equations ──

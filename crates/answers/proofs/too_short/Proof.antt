@@ -1,10 +1,10 @@
 use borrow.Author.Tests.{lt-ltb, le-ltb}
-use Rattle.answers.specs.Lent.{tooShort}
+use Rattle.answers.specs.Lengths.{tooFew}
 use Rattle.answers.proofs.too_short.Statement.{statement}
 use Rattle.answers.proofs.too_short.Tie as tie
 
 pub too-short-spec : {M : Type 1} → statement M
-unfolding tooShort
+unfolding tooFew
 too-short-spec =
     tie.close (tie.spec
     (λ c. rw (lt-ltb _ _ (c .if1 .taken)))
