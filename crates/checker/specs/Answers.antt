@@ -150,6 +150,16 @@ module _ (s : List ℕ) (l : Lent) where
         subst (λ (v : Totals). On0 s l v (tablesOf s l n)) g (record { read = r; ended = z; counts = refl; tables = refl });
   })
 
+  -- and no table is too short
+  pub long-on-0 : (t : Totals) → checkOf s l .answer ≡ answer.Checked t → tooShort l ≡ false
+  long-on-0 = check-cases s l (λ h. (t : Totals) → h .answer ≡ answer.Checked t → tooShort l ≡ false) (record {
+    long = λ h t e. apart (cc);
+    short = λ h q t e. apart (cc);
+    refused = λ h q x k r t e. apart (cc);
+    declined = λ h q n k p r z y t e. apart (cc);
+    checked = λ h q n r z t e. q;
+  })
+
   -- 10 to 13
   pub on-10-to-13 : (k : ℕ) (p : NodeId) → checkOf s l .answer ≡ answer.Declined k p → On10to13 s l k (p .0) (checkOf s l .tables)
   on-10-to-13 = check-cases s l (λ h. (k : ℕ) (p : NodeId) → h .answer ≡ answer.Declined k p → On10to13 s l k (p .0) (h .tables)) (record {

@@ -13,6 +13,8 @@ use Rattle.theory.specs.Basics.{clash}
 use Rattle.lex.specs.Text.{text}
 use Rattle.bounds.specs.Confined.{isMade}
 use Rattle.tables.specs.Read.{madeAt}
+use Rattle.errors.specs.declared.ErrorRow.{ErrorRow}
+use Rattle.errors.specs.Rows.{rowAt}
 use Rattle.answers.specs.declared.Totals.{Totals}
 use Rattle.answers.specs.declared.Answer.{Answer}
 use Rattle.answers.specs.declared.Answer.the-variants as answer
@@ -27,7 +29,7 @@ use Rattle.report_text.specs.Written.{textOf}
 use Rattle.report.specs.Report.{Told, told, reportText, reportOf}
 
 -- a refusal
-alone : (a : Answer) (nodes vars types errors : List ℕ) → (answerNumber a ≡ 0 → ⊥) → textOf a nodes vars types errors ≡ answerLine (answerNumber a) (answerPlace a)
+alone : (a : Answer) (nodes vars types : List ℕ) (errors : ℕ → ErrorRow) → (answerNumber a ≡ 0 → ⊥) → textOf a nodes vars types errors ≡ answerLine (answerNumber a) (answerPlace a)
 unfolding textOf
 alone (answer.Checked n) nodes vars types errors h = absurd (h refl)
 alone answer.TooLong nodes vars types errors h = append-nil _
@@ -88,4 +90,4 @@ module _ (s : List ℕ) (l : Lent) (o : List ℕ) where
   -- the text of a refusal is the `answer` line alone
   pub refusal-alone : (answerNumber (checkOf s l .answer) ≡ 0 → ⊥) → reportText s l ≡ answerLine (answerNumber (checkOf s l .answer)) (answerPlace (checkOf s l .answer))
   unfolding reportText
-  refusal-alone h = alone (checkOf s l .answer) (checkOf s l .tables .nodes) (checkOf s l .tables .vars) (checkOf s l .tables .types) (checkOf s l .tables .errors) h
+  refusal-alone h = alone (checkOf s l .answer) (checkOf s l .tables .nodes) (checkOf s l .tables .vars) (checkOf s l .tables .types) (rowAt (checkOf s l .tables .errors)) h

@@ -5,6 +5,7 @@ use mathlib.Core.Bool.{cond}
 use Prim.Native.Nat.{ℕ}
 use lib.ListN.{length, drop}
 use lib.Dec.{ltb}
+use Rattle.errors.specs.Rows.{rowAt}
 use Rattle.answers.specs.Lent.{Lent}
 use Rattle.checker.specs.Check.{checkOf}
 use Rattle.output.specs.Output.{zeros}
@@ -25,7 +26,7 @@ told r l o = record { answer = r; number = reportNumber r; place = reportPlace r
 
 -- the report of the file s with the tables l
 unfoldable pub reportText : List ℕ → Lent → List ℕ
-reportText s l = let h = checkOf s l in textOf (h .answer) (h .tables .nodes) (h .tables .vars) (h .tables .types) (h .tables .errors)
+reportText s l = let h = checkOf s l in textOf (h .answer) (h .tables .nodes) (h .tables .vars) (h .tables .types) (rowAt (h .tables .errors))
 
 -- `report`: the text over the first bytes of the output, those after it unchanged; 9 where it has no room, and zeros throughout. The tables are as
 -- `check` leaves them, with room and without

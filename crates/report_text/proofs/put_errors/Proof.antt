@@ -1,75 +1,36 @@
+use Rattle.report_text.proofs.LineLaws.{rows-none, rows-next, rows-all}
+use Rattle.report_text.specs.Lines.{errorLine, errorLines}
+use Rattle.errors.specs.Rows.{rowIn}
+use Rattle.output.specs.Appending.{then, appends-as}
+use Rattle.tables.specs.Rows.{cellsTo}
+use Rattle.output.specs.Output.{Appends}
+use lib.ListN.{length}
+use Prim.Native.Nat.{_≤_, _-_}
+use mathlib.Core.Path.{_≡_, refl, ap, _∙_}
+use borrow.Author.Needs.{needs}
 use Rattle.report_text.proofs.put_errors.Statement.{statement}
 use Rattle.report_text.proofs.put_errors.Tie as tie
-use Rattle.report_text.proofs.put_errors.Reads as reads
-use Rattle.report_text.proofs.put_errors.Lts as lts
-use Rattle.errors.proofs.error_row.Reads as error-row-reads
-use Rattle.output.proofs.put_line.Reads as put-line-reads
-use Rattle.report_text.proofs.put_error.Reads as put-error-reads
 
 abbrev Inv-loop : tie.InvT-loop
-Inv-loop out₀ m n d₀ i₀ out d i = ?
+Inv-loop out₀ m n d₀ i₀ out d i = Appends (cellsTo (λ j. errorLine (rowIn m n j)) i) d₀ out₀ d out × (i ≤ n) × (length out ≡ length out₀)
 
 abbrev μ-loop : tie.MeasureT-loop
-μ-loop out₀ m n d₀ i₀ out d i = ?
-
--- src/lib.rt:305:42
-slice-aggregate-put-line : tie.Need-slice-aggregate-put-line Inv-loop μ-loop
-slice-aggregate-put-line c = ?
-
--- src/lib.rt:305:9
-put-line-requires : tie.Need-put-line-requires Inv-loop μ-loop
-put-line-requires c κs = ?
-
--- src/lib.rt:307:5
-loop-holds : tie.Need-loop-holds Inv-loop μ-loop
-loop-holds c = ?
-
--- src/lib.rt:308:41
-cast-error-row : tie.Need-cast-error-row Inv-loop μ-loop
-cast-error-row c = ?
-
--- src/lib.rt:308:13
-error-row-requires : tie.Need-error-row-requires Inv-loop μ-loop
-error-row-requires c κs = ?
-
--- src/lib.rt:309:9
-put-error-requires : tie.Need-put-error-requires Inv-loop μ-loop
-put-error-requires c κs = ?
-
--- src/lib.rt:310:9
-add-i : tie.Need-add-i Inv-loop μ-loop
-add-i c = ?
-
--- src/lib.rt:307:5
-loop-less : tie.Need-loop-less Inv-loop μ-loop
-loop-less c = ?
-
--- src/lib.rt:307:5
-loop-again : tie.Need-loop-again Inv-loop μ-loop
-loop-again c = ?
-
--- src/lib.rt:302:1
-same-length : tie.Need-same-length Inv-loop μ-loop
-same-length c = ?
-
--- src/lib.rt:302:1
-returns : tie.Need-returns Inv-loop μ-loop
-returns c = ?
+μ-loop out₀ m n d₀ i₀ out d i = n - i
 
 pub put-errors-spec : {M : Type 1} → statement M
+unfolding errorLines
 put-errors-spec =
-    tie.close
-    (tie.spec
+    tie.close (tie.spec
     Inv-loop
     μ-loop
-    slice-aggregate-put-line
-    put-line-requires
-    loop-holds
-    cast-error-row
-    error-row-requires
-    put-error-requires
-    add-i
-    loop-less
-    loop-again
-    same-length
-    returns)
+    (λ c. search needs)
+    (λ c κs. search needs)
+    (λ c. (rows-none _ _ _, search needs, refl))
+    (λ c. search needs)
+    (λ c κs. search needs)
+    (λ c κs. search needs)
+    (λ c. search needs)
+    (λ c. search needs)
+    (λ c. (rows-next _ _ ((c .before .before .before .before .before .before .loop .inv .0)) (appends-as (ap errorLine ((c .before .before .before .before .error-row .ensures))) ((c .before .before .put-error .ensures))), search needs, ((c .before .before .put-error .kept .0)) ∙ ((c .before .before .before .before .before .before .loop .inv .2))))
+    (λ c. ((c .before .loop .inv .2)) ∙ ((c .before .before .before .before .put-line .kept .0)))
+    (λ c. then ((c .before .before .before .before .put-line .ensures)) (rows-all _ _ _ ((c .before .loop .inv .1)) ((c .loop-test .left)) ((c .before .loop .inv .0)))))
