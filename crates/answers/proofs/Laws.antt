@@ -2,12 +2,14 @@
 use mathlib.Core.Path.{_≡_, refl, ap}
 use mathlib.Core.List.{List, []}
 use Prim.Native.Nat.{ℕ, _-_, _≤_}
-use lib.ListN.{drop}
+use lib.ListN.{length, drop}
 use Rattle.type_table.specs.declared.NodeId.{NodeId}
 use Rattle.refs.specs.declared.Counts.{Counts}
 use Rattle.body.specs.Body.{first}
 use Rattle.forms.specs.declared.Fault.{Fault}
 use Rattle.record.specs.declared.Record.{Record}
+use Rattle.errors.specs.declared.ErrorRow.{ErrorRow}
+use Rattle.errors.specs.Rows.{rowIn, filledTo}
 use Rattle.tables.specs.Rows.{zeros, Fills}
 use Rattle.tables.specs.Types.{typeTable, typeRoom}
 use Rattle.answers.specs.declared.Totals.{Totals}
@@ -15,8 +17,8 @@ use Rattle.answers.specs.declared.Answer.{Answer}
 use Rattle.answers.specs.declared.Answer.the-variants as answer
 use Rattle.answers.specs.declared.Walked.{Walked}
 use Rattle.answers.specs.declared.Walked.the-variants as walked
-use Rattle.answers.specs.Lent.{Lent, lent, emptied, firstMade, madeTypes}
-use Rattle.answers.specs.Parts.{counted, Filled, HandedBack}
+use Rattle.answers.specs.Lent.{Lent, lent, emptied, firstMade, madeTypes, errorsUsed, errorsEnd, memoryEnded}
+use Rattle.answers.specs.Parts.{counted, Filled, HandedBack, HandsErrors}
 
 -- the table of made types, from the first of them on
 pub made-filled : (m : List ℕ) (c : Record) (n : Counts) (f k : ℕ) (u : List ℕ) → (n .types ≤ 512 → f ≡ firstMade n) → Fills m c (typeRoom f k) (λ s. typeTable k (drop f (s .rows))) u
@@ -57,3 +59,8 @@ pub all-emptied : (l u : Lent) → u .rows ≡ zeros (l .rows) → u .cells ≡ 
     → u .log ≡ zeros (l .log) → u .errors ≡ l .errors → u .memory ≡ l .memory → u ≡ emptied l
 unfolding emptied
 all-emptied l u a b c d e f g h = rw (← a, ← b, ← c, ← d, ← e, ← f, ← g, ← h)
+
+-- the errors are filled by what is in use and what is written, and the memory is ended
+pub hand-law : (d : Answer) (ts : List ErrorRow) (ms : List ℕ) (n e : ℕ) (us : List ErrorRow) (vs : List ℕ) → n ≡ errorsUsed d → e ≡ errorsEnd d (length ts) → us ≡ filledTo ts (rowIn ms n) e → vs ≡ memoryEnded d ms
+    → HandsErrors d ts ms us vs
+hand-law d ts ms n e us vs p q f g = (rw (← p, ← q) f, g)

@@ -10,12 +10,13 @@ use Rattle.tables.specs.Nodes.{nodeTable, nodeRoom}
 use Rattle.tables.specs.Vars.{varTable, varRoom}
 use Rattle.tables.specs.Types.{typeTable, typeRoom}
 use Rattle.tables.specs.Log.{logTable, logRoom}
+use Rattle.errors.specs.declared.ErrorRow.{ErrorRow}
 use Rattle.answers.specs.declared.Totals.{Totals}
 use Rattle.answers.specs.declared.Answer.{Answer}
 use Rattle.answers.specs.declared.Answer.the-variants as answer
 use Rattle.answers.specs.declared.Walked.{Walked}
 use Rattle.answers.specs.declared.Walked.the-variants as walked
-use Rattle.answers.specs.Lent.{Lent, emptied, firstMade, madeTypes}
+use Rattle.answers.specs.Lent.{Lent, emptied, firstMade, madeTypes, errorsHanded, memoryEnded}
 
 -- the rows in use, by the running record
 abbrev pub counted : Counts → Record → Totals
@@ -40,3 +41,7 @@ HandedAs walked.Unread l r u = Unit {0}
 -- the tables but the errors and the memory are handed back
 pub record HandedBack (w : Walked) (l : Lent) (r : Answer) (u : Lent) : Type 0 where
   pub by : HandedAs w l r u
+
+-- the errors e and the memory m are handed back as f and v
+abbrev pub HandsErrors : Answer → List ErrorRow → List ℕ → List ErrorRow → List ℕ → Type 0
+HandsErrors a e m f v = (f ≡ errorsHanded a e m) × (v ≡ memoryEnded a m)

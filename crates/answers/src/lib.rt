@@ -4,7 +4,8 @@ ghost use Prim.Native.Nat.{_+_, _-_, _≤_};
 ghost use mathlib.Core.List.{[]};
 ghost use Rattle.answers.specs.Lent.{lent, emptied, errorsUsed, errorsEnd, memoryEnded};
 ghost use Rattle.answers.specs.Lengths.{tooFew};
-ghost use Rattle.answers.specs.Parts.{counted, Filled, HandedBack};
+ghost use Rattle.answers.specs.Parts.{counted, Filled, HandedBack, HandsErrors};
+use errors::ErrorRow;
 use forms::Fault;
 use record::Record;
 use refs::Counts;
@@ -235,4 +236,14 @@ pub fn end_memory(memory: &mut [u16], a: Answer)
         Answer::Refused(f, l) => tables::clear(memory),
         Answer::Declined(k, p) => tables::clear(memory),
     }
+}
+
+// Hands the errors back from the memory of the walk, and ends the memory.
+pub fn hand_errors(errors: &mut [ErrorRow], memory: &mut [u16], a: Answer)
+    ensures { λ _. ⌜ HandsErrors a (now (errors .entry)) (now (memory .entry)) (now (errors .exit)) (now (memory .exit)) ⌝ }
+{
+    let n = errors_used(a);
+    let end = errors_end(a, errors.len());
+    errors::fill_errors(errors, memory, n, end);
+    end_memory(memory, a);
 }

@@ -44,7 +44,7 @@ use Rattle.answers.specs.Lent.{Lent, lent, cleared, tooShort, held, madeTypes, 
 use Rattle.checker.specs.Check.{typed, readingOf, checkOf}
 use Rattle.checker.specs.Answers.{read-well-formed}
 use Rattle.answers.specs.Lengths.{Long, not-short}
-use Rattle.answers.specs.Parts.{counted, Filled, HandedAs, HandedBack}
+use Rattle.answers.specs.Parts.{counted, Filled, HandedAs, HandedBack, HandsErrors}
 use Rattle.checker.specs.Parts.{Declining, ReadAs, WalkRead, WalkedAs, WalkedIn, FileAs, CellsWalked, FileWalked, TablesChecked}
 
 -- ── a body that was typed ──
@@ -287,3 +287,8 @@ check-done s n l h q rows cells m x y v w r u g k t = record {
       let long = not-short (lentWith e l) (q e z) in
       check-by s (lentWith e l) h (q e z) rows cells m x y v w (g .by h (long .rows) (long .cells) (omega (arith, long .memory))) r u k (t .by);
 }
+
+-- with the errors and the memory that are handed back
+pub check-law : (s : List ℕ) (e : List ErrorRow) (l : Lent) (r : Answer) (u : Lent) (f : List ErrorRow) (v : List ℕ) → TablesChecked s (length e) l r u → HandsErrors r e (u .memory) f v
+    → held r (lent (u .rows) (u .cells) (u .nodes) (u .vars) (u .types) f (u .log) v) ≡ checkOf s (lentWith e l)
+check-law s e l r u f v p h = rw (h .0, h .1) (p .with-errors e refl)

@@ -7,3 +7,4 @@ pub mod Back
 pub mod Limits
 pub mod Demand
 pub mod Claims
+pub mod Handing

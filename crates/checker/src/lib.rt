@@ -3,11 +3,13 @@
 ghost use mathlib.Core.Path.{_≡_};
 ghost use Rattle.body.specs.Body.{rows-length, cells-length};
 ghost use mathlib.Core.List.{[]};
-ghost use Rattle.answers.specs.Lent.{lent};
+ghost use Rattle.answers.specs.Lent.{lent, held};
+ghost use Rattle.checker.specs.Check.{checkOf};
 ghost use Rattle.checker.specs.Parts.{WalkRead, WalkedIn, CellsWalked, FileWalked, TablesChecked};
 use answers::Answer;
 use answers::Walked;
 use body::Answer as Reading;
+use errors::ErrorRow;
 use record::Ruled;
 use refs::Counts;
 
@@ -93,4 +95,24 @@ pub fn check_tables(
     }
     let w = walk_file(s, rows, cells, memory);
     answers::hand_back(w, rows, cells, nodes, vars, types, log, memory)
+}
+
+// Checks a file.
+pub fn check(
+    s: &[u8],
+    rows: &mut [u16],
+    cells: &mut [u16],
+    nodes: &mut [u16],
+    vars: &mut [u16],
+    types: &mut [u16],
+    errors: &mut [ErrorRow],
+    log: &mut [u16],
+    memory: &mut [u16],
+) -> Answer
+    ensures { λ r. ⌜ held r (lent (now (rows .exit)) (now (cells .exit)) (now (nodes .exit)) (now (vars .exit)) (now (types .exit)) (now (errors .exit)) (now (log .exit)) (now (memory .exit))) ≡ checkOf (now (s .entry)) (lent (now (rows .entry)) (now (cells .entry)) (now (nodes .entry)) (now (vars .entry)) (now (types .entry)) (now (errors .entry)) (now (log .entry)) (now (memory .entry))) ⌝ }
+{
+    let room = errors.len();
+    let a = check_tables(s, rows, cells, nodes, vars, types, room, log, memory);
+    answers::hand_errors(errors, memory, a);
+    a
 }

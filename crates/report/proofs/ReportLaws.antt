@@ -12,8 +12,9 @@ use Rattle.errors.specs.Filling.{filled-at}
 use Rattle.tables.specs.RowLaws.{cells-ext}
 use Rattle.answers.specs.declared.Answer.{Answer}
 use Rattle.answers.specs.declared.Answer.the-variants as answer
-use Rattle.answers.specs.Lent.{Lent, lent, Held, held, errorsUsed, errorsHanded, memoryEnded, lentWith, handedWith}
+use Rattle.answers.specs.Lent.{Lent, lent, Held, held, errorsUsed, errorsHanded, lentWith, handedWith}
 use Rattle.answers.specs.Lengths.{not-short}
+use Rattle.answers.specs.Parts.{HandsErrors}
 use Rattle.checker.specs.Check.{checkOf}
 use Rattle.checker.specs.Answers.{long-on-0}
 use Rattle.checker.specs.Claims.{limits}
@@ -74,8 +75,7 @@ tables-reported s n l u o x a r p q = record {
       rw (reported-answer a _ o x r q) (report-as s (lentWith e l) (handedWith a e u) o x a r h (rw t at q));
 }
 
--- with the table that is lent
-pub reported-with : (s : List ℕ) (l u : Lent) (e f : List ErrorRow) (m o x : List ℕ) (r : Reported) → TablesReported s (length e) l o r u x
-    → f ≡ errorsHanded (checkedAnswer r) e (u .memory) → m ≡ memoryEnded (checkedAnswer r) (u .memory)
-    → told r (lent (u .rows) (u .cells) (u .nodes) (u .vars) (u .types) f (u .log) m) x ≡ reportOf s (lentWith e l) o
-reported-with s l u e f m o x r p a b = rw (a, b) (p .with-errors e refl)
+-- with the errors and the memory that are handed back
+pub report-law : (s : List ℕ) (e : List ErrorRow) (l : Lent) (o : List ℕ) (r : Reported) (u : Lent) (x : List ℕ) (d : Answer) (f : List ErrorRow) (v : List ℕ) → TablesReported s (length e) l o r u x
+    → d ≡ checkedAnswer r → HandsErrors d e (u .memory) f v → told r (lent (u .rows) (u .cells) (u .nodes) (u .vars) (u .types) f (u .log) v) x ≡ reportOf s (lentWith e l) o
+report-law s e l o r u x d f v p k h = rw (h .0, h .1, k) (p .with-errors e refl)

@@ -47,7 +47,7 @@ use denote.Exit.{yes}
 use Rattle.errors.specs.declared.ErrorRow.{ErrorRow}
 use Rattle.errors.specs.Rows.{rowIn, filledTo}
 use Rattle.errors.proofs.ErrorRow.Laws as S′
-use Rattle.errors.proofs.Again.{LentAgain, lends-again, comes-back}
+use Rattle.lending.specs.Again.{LentAgain, lends-again, comes-back}
 use Rattle.errors.specs.Filling.{length-filled}
 use Rattle.errors.proofs.Listed.{none-yet, one-more}
 use Rattle.errors.proofs.Row.{R, row-tells, row-typed, row-made}

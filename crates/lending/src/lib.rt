@@ -1,0 +1,1 @@
+// Laws for the proofs by hand of functions over lent structs: no code.
