@@ -6,6 +6,7 @@ ghost use lib.Seq.{sets};
 ghost use Rattle.type_table.specs.Memory.{cell};
 ghost use Rattle.flat_report.specs.Flat.{held-rows, rowFrom, rowNumbers, rowsFrom, rowsIn, putTo};
 use errors::ErrorRow;
+use report_text::Reported;
 
 // The numbers of a table of 4,096 errors.
 pub const ERRORS: usize = 36864;
@@ -101,4 +102,37 @@ fn put_rows(t: &mut [u16], held: [ErrorRow; HELD], n: usize)
         put_row(t, i, r);
         i += 1;
     }
+}
+
+// ── the report ──
+
+// Checks a file, and writes its report; the errors are handed back as numbers, as many whole rows as there are.
+pub fn report_flat(
+    s: &[u8],
+    rows: &mut [u16],
+    cells: &mut [u16],
+    nodes: &mut [u16],
+    vars: &mut [u16],
+    types: &mut [u16],
+    errors: &mut [u16],
+    log: &mut [u16],
+    memory: &mut [u16],
+    out: &mut [u8],
+) -> Reported {
+    let mut held = rows_of(errors);
+    let n = rows_in(errors.len());
+    let r = report::report(
+        s,
+        rows,
+        cells,
+        nodes,
+        vars,
+        types,
+        &mut held[..n],
+        log,
+        memory,
+        out,
+    );
+    put_rows(errors, held, n);
+    r
 }

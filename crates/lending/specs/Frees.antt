@@ -1,4 +1,4 @@
--- A function's locals are freed at once, where they lie behind all else in the context, as they were allocated: it stands for a `forget` and a `free1` of each. It says nothing of the crate, and can be copied as it stands. Assumes `Given`.
+-- A function's locals are freed at once, where they lie behind all else in the context, as they were allocated: it stands for a `forget` and a `free1` of each. Assumes `Given`.
 --     Held, cell       what a local holds, a value or nothing, and its cell
 --     locals E hs Γ    the locals E, which hold hs, in front of Γ: as `alloc1` puts them, the last first
 --     frees-all k hs   the first k entries of the context are kept, and the rest are the locals, which `refl` shows

@@ -1,5 +1,4 @@
-pub mod Again
-pub mod Shared
+pub mod Slices
 pub mod Sorts
 pub mod Frees
 pub mod Unit

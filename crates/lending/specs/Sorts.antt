@@ -1,4 +1,4 @@
--- A star of items is sorted: what is had in two rows is had in two others, or in three. It says nothing of the crate, and can be copied as it stands. Assumes nothing.
+-- A star of items is sorted: what is had in two rows is had in two others, or in three. Assumes nothing.
 --     sorts        ⋆ Δ ∗ ⋆ Γ  ⊢  ⋆ Δ′ ∗ ⋆ Γ′        where the entries of Δ ++ Γ at the positions π are Δ′ ++ Γ′, which `refl` shows. What π leaves out is let go
 --     sorts3       ⋆ Δ ∗ ⋆ Γ  ⊢  ⋆ Δ′ ∗ (⋆ Γ′ ∗ ⋆ Θ′)        likewise
 --     alone        P  ⊢  P ∗ emp

@@ -28,7 +28,9 @@ fn run_report(
     memory: &mut [u16],
     out: &mut [u8],
 ) -> bool {
-    let r = report::report(s, rows, cells, nodes, vars, types, errors, log, memory, out);
+    let r = flat_report::report_flat(
+        s, rows, cells, nodes, vars, types, errors, log, memory, out,
+    );
     samples::agree(
         name,
         s,

@@ -23,9 +23,9 @@ use Rattle.output.specs.Output.{zeros}
 use Rattle.report_text.specs.declared.Reported.{Reported}
 use Rattle.report_text.specs.declared.Reported.the-variants.{Written, NoRoom}
 use Rattle.report_text.specs.Lines.{errorLine, errorLines, tablesText}
-use Rattle.report_text.specs.Written.{textOf, Said, said, written}
+use Rattle.report_text.specs.Written.{textOf, checkedAnswer, Said, said, written}
 use Rattle.report.specs.Report.{told, reportText, reportOf}
-use Rattle.report.specs.Parts.{checkedAnswer, TablesReported}
+use Rattle.report.specs.Parts.{TablesReported}
 
 -- a text that is written, with the tables m
 told-written : (a : Answer) (m : Lent) (t o : List ℕ) → told (written a t o .answer) m (written a t o .output) ≡ cond (ltb (length o) (length t)) (told (NoRoom a) m (zeros o)) (told (Written a (length t)) m (t ++ drop (length t) o))

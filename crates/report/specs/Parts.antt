@@ -4,16 +4,10 @@ use mathlib.Core.List.{List}
 use Prim.Native.Nat.{ℕ}
 use lib.ListN.{length}
 use Rattle.errors.specs.declared.ErrorRow.{ErrorRow}
-use Rattle.answers.specs.declared.Answer.{Answer}
 use Rattle.answers.specs.Lent.{Lent, lentWith, handedWith}
 use Rattle.report_text.specs.declared.Reported.{Reported}
-use Rattle.report_text.specs.declared.Reported.the-variants.{Written, NoRoom}
+use Rattle.report_text.specs.Written.{checkedAnswer}
 use Rattle.report.specs.Report.{told, reportOf}
-
--- the answer of the check that was reported
-abbrev pub checkedAnswer : Reported → Answer
-checkedAnswer (Written a n) = a
-checkedAnswer (NoRoom a) = a
 
 -- a file is checked and reported but for its table of errors, for which n rows are lent: with any such table, handed back from the memory, answer, tables and
 -- output are `reportOf`

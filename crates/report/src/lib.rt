@@ -3,8 +3,7 @@ ghost use mathlib.Core.Path.{_≡_};
 ghost use mathlib.Core.List.{[]};
 ghost use Rattle.answers.specs.Lent.{lent};
 ghost use Rattle.report.specs.Report.{told, reportOf};
-ghost use Rattle.report.specs.Parts.{checkedAnswer, TablesReported};
-use answers::Answer;
+ghost use Rattle.report.specs.Parts.{TablesReported};
 use errors::ErrorRow;
 use report_text::Reported;
 
@@ -27,16 +26,6 @@ pub fn report_tables(
     report_text::write_report(out, a, nodes, vars, types, memory)
 }
 
-// The answer of the check that was reported.
-pub fn answer_of(r: Reported) -> Answer
-    ensures { λ a. ⌜ a ≡ checkedAnswer r ⌝ }
-{
-    match r {
-        Reported::Written(a, n) => a,
-        Reported::NoRoom(a) => a,
-    }
-}
-
 // Checks a file, and writes its report.
 pub fn report(
     s: &[u8],
@@ -54,7 +43,7 @@ pub fn report(
 {
     let room = errors.len();
     let r = report_tables(s, rows, cells, nodes, vars, types, room, log, memory, out);
-    let a = answer_of(r);
+    let a = report_text::answer_of(r);
     answers::hand_errors(errors, memory, a);
     r
 }

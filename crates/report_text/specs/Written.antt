@@ -30,6 +30,11 @@ textOf a nodes vars types errors = answerLine (answerNumber a) (answerPlace a) +
 
 -- ── the answer ──
 
+-- the answer of the check that is reported
+abbrev pub checkedAnswer : Reported → Answer
+checkedAnswer (Written a n) = a
+checkedAnswer (NoRoom a) = a
+
 -- document 01's number: Check's own, or 9
 abbrev pub reportNumber : Reported → ℕ
 reportNumber (Written a n) = answerNumber a

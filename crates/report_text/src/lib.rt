@@ -14,7 +14,7 @@ ghost use Rattle.tables.specs.Read.{cellsAt, madeAt};
 ghost use Rattle.output.specs.declared.Cursor.the-variants.{At};
 ghost use Rattle.output.specs.Output.{Appends, numberText};
 ghost use Rattle.report_text.specs.Lines.{optionText, optionAt, eachText, answerLine, typeText, typeLine, typeLines, kindText, varLine, varLines, extraText, nodeLine, nodeLines, spanText, secondText, errorLine, errorLines, tablesText, lambdaText, placeText, valueCount, valueCells};
-ghost use Rattle.report_text.specs.Written.{textOf, said, written};
+ghost use Rattle.report_text.specs.Written.{textOf, checkedAnswer, said, written};
 use answers::Answer;
 use answers::Totals;
 use errors::ErrorRow;
@@ -422,5 +422,15 @@ pub fn write_report(
     match output::finish(out, c) {
         Cursor::At(n) => Reported::Written(a, n),
         Cursor::Full => Reported::NoRoom(a),
+    }
+}
+
+// The answer of the check that was reported.
+pub fn answer_of(r: Reported) -> Answer
+    ensures { λ a. ⌜ a ≡ checkedAnswer r ⌝ }
+{
+    match r {
+        Reported::Written(a, n) => a,
+        Reported::NoRoom(a) => a,
     }
 }

@@ -62,11 +62,11 @@ fn run(s: &[u8]) {
     let mut nodes = [0u16; answers::NODES];
     let mut vars = [0u16; answers::VARS];
     let mut types = [0u16; answers::TYPES];
-    let mut errors = [0u16; answers::ERRORS];
+    let mut errors = [0u16; flat_report::ERRORS];
     let mut log = [0u16; 0];
     let mut memory = [0u16; answers::MEMORY];
     let mut out = [0u8; OUTPUT];
-    let r = report::report(
+    let r = flat_report::report_flat(
         s,
         &mut rows,
         &mut cells,

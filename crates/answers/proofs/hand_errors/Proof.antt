@@ -1,5 +1,5 @@
 -- `answers::hand_errors` meets its contract: a walk of its MIR, by hand. All that it knows of `errors_used`, `errors_end`, `fill_errors` and `end_memory` is that each meets its contract. Assumes nothing.
--- `errors` goes to `fill_errors` at its own lifetime, share and ghost name, and is given up for good. `memory` is lent as a `&[u16]` for a lifetime that is made for that call, comes back as it was (`Shared` of lending), and goes to `end_memory` for good.
+-- `errors` goes to `fill_errors` at its own lifetime, share and ghost name, and is given up for good. `memory` is lent as a `&[u16]` for a lifetime that is made for that call, comes back as it was (`Slices` of lending), and goes to `end_memory` for good.
 -- The walk ends in `hand-law` of Laws, and reads no definition that a contract cites.
 use mathlib.Core.Path.{_≡_, refl}
 use Prim.Native.Nat.{ℕ}
@@ -46,7 +46,7 @@ use Rattle.answers.specs.declared.Answer.{Answer}
 use Rattle.errors.proofs.ErrorRow as E
 use Rattle.answers.proofs.Answer as N
 use Rattle.answers.proofs.Answer.Laws as N′
-use Rattle.lending.specs.Shared.{LentShared, lends-shared, shared-back}
+use Rattle.lending.specs.Slices.{LentShared, lends-shared, shared-back}
 use Rattle.lending.specs.Frees.{full, frees-all}
 use Rattle.lending.specs.Unit.{unit-typed}
 use Rattle.answers.proofs.Laws.{hand-law}

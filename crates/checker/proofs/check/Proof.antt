@@ -1,5 +1,5 @@
 -- `checker::check` meets its contract: a walk of its MIR, by hand. All that it knows of `check_tables`, and `hand_errors` is that each meets its contract. Assumes nothing.
--- `memory` is lent again to `check_tables`, for a lifetime that is made for the call, and comes back (`Again` of lending); every other slice but `errors` is given up to it for good. Then `errors` and `memory` are given up to `hand_errors` (`Handing` of checker).
+-- `memory` is lent again to `check_tables`, for a lifetime that is made for the call, and comes back (`Slices` of lending); every other slice but `errors` is given up to it for good. Then `errors` and `memory` are given up to `hand_errors` (`Handing` of checker).
 -- The walk ends in `check-law` of the laws, and reads no definition that a contract cites.
 use mathlib.Core.Path.{_≡_, refl, _∙_}
 use Prim.Native.Nat.{ℕ}
@@ -46,7 +46,7 @@ use Rattle.answers.specs.declared.Answer.{Answer}
 use Rattle.errors.proofs.ErrorRow as E
 use Rattle.answers.proofs.Answer as N
 use Rattle.answers.proofs.Answer.Laws as N′
-use Rattle.lending.specs.Again.{LentAgain, lends-again, comes-back}
+use Rattle.lending.specs.Slices.{LentAgain, lends-again, comes-back}
 use Rattle.lending.specs.Sorts.{sorts, sorts3, alone}
 use Rattle.lending.specs.Frees.{full, frees-all}
 use Rattle.lending.specs.Unit.{unit-typed}

@@ -1,4 +1,4 @@
--- `errors::fill_errors` meets its contract: a walk of its MIR, by hand. After i turns of the loop the slice holds the table with its first i rows filled; a turn calls `error_row` for the row, and lends the slice again to `append_error` for a lifetime that is made for the call, after which it comes back (`Again.antt`). Of both it knows only that they meet their contracts. Assumes nothing.
+-- `errors::fill_errors` meets its contract: a walk of its MIR, by hand. After i turns of the loop the slice holds the table with its first i rows filled; a turn calls `error_row` for the row, and lends the slice again to `append_error` for a lifetime that is made for the call, after which it comes back (`Slices` of lending). Of both it knows only that they meet their contracts. Assumes nothing.
 use mathlib.Core.Path.{_≡_, refl, sym, _∙_, ap, subst}
 use mathlib.Core.Bool.{Bool, true, false}
 use mathlib.Core.Logic.{inl, inr}
@@ -47,7 +47,7 @@ use denote.Exit.{yes}
 use Rattle.errors.specs.declared.ErrorRow.{ErrorRow}
 use Rattle.errors.specs.Rows.{rowIn, filledTo}
 use Rattle.errors.proofs.ErrorRow.Laws as S′
-use Rattle.lending.specs.Again.{LentAgain, lends-again, comes-back}
+use Rattle.lending.specs.Slices.{LentAgain, lends-again, comes-back}
 use Rattle.errors.specs.Filling.{length-filled}
 use Rattle.errors.proofs.Listed.{none-yet, one-more}
 use Rattle.errors.proofs.Row.{R, row-tells, row-typed, row-made}

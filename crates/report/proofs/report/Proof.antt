@@ -1,5 +1,5 @@
 -- `report::report` meets its contract: a walk of its MIR, by hand. All that it knows of `report_tables`, `answer_of` and `hand_errors` is that each meets its contract. Assumes nothing.
--- `memory` is lent again to `report_tables`, for a lifetime that is made for the call, and comes back (`Again` of lending); every other slice but `errors` is given up to it for good. Then `errors` and `memory` are given up to `hand_errors` (`Handing` of checker).
+-- `memory` is lent again to `report_tables`, for a lifetime that is made for the call, and comes back (`Slices` of lending); every other slice but `errors` is given up to it for good. Then `errors` and `memory` are given up to `hand_errors` (`Handing` of checker).
 -- The walk ends in `report-law` of the laws, and reads no definition that a contract cites.
 use mathlib.Core.Path.{_≡_, refl, _∙_}
 use Prim.Native.Nat.{ℕ}
@@ -38,9 +38,10 @@ use denote.Triple.Table.{entered, cited}
 use denote.Triple.Walked.{says, Stays, stay-dropped, gave-slice, walkOf, goes-dropped, goes-gave-slice, Walks, ends-at, walked, walk-meets}
 use denote.Exit.{yes}
 use denote.Signature.{plain, shrSliceOf}
-use Rattle.report.specs.Parts.{TablesReported, checkedAnswer}
+use Rattle.report.specs.Parts.{TablesReported}
 use Rattle.answers.specs.Parts.{HandsErrors}
 use Rattle.answers.specs.Lent.{lent as lentTables}
+use Rattle.report_text.specs.Written.{checkedAnswer}
 use Rattle.errors.specs.declared.ErrorRow.{ErrorRow}
 use Rattle.answers.specs.declared.Answer.{Answer}
 use Rattle.report_text.specs.declared.Reported.{Reported}
@@ -49,7 +50,7 @@ use Rattle.answers.proofs.Answer as N
 use Rattle.answers.proofs.Answer.Laws as N′
 use Rattle.report_text.proofs.Reported as B
 use Rattle.report_text.proofs.Reported.Laws as B′
-use Rattle.lending.specs.Again.{LentAgain, lends-again, comes-back}
+use Rattle.lending.specs.Slices.{LentAgain, lends-again, comes-back}
 use Rattle.lending.specs.Sorts.{sorts, sorts3, alone}
 use Rattle.lending.specs.Frees.{full, frees-all}
 use Rattle.lending.specs.Unit.{unit-typed}
@@ -59,10 +60,10 @@ use Rattle.report.proofs.report_tables as tables
 use Rattle.report.proofs.report_tables.Symbol as tables-def
 use Rattle.report.proofs.report_tables.Symbol.{name as #report·report-tables}
 use Rattle.report.proofs.report_tables.Met as tables-thm
-use Rattle.report.proofs.answer_of as answer
-use Rattle.report.proofs.answer_of.Symbol as answer-def
-use Rattle.report.proofs.answer_of.Symbol.{name as #report·answer-of}
-use Rattle.report.proofs.answer_of.Met as answer-thm
+use Rattle.report_text.proofs.answer_of as answer
+use Rattle.report_text.proofs.answer_of.Symbol as answer-def
+use Rattle.report_text.proofs.answer_of.Symbol.{name as #report-text·answer-of}
+use Rattle.report_text.proofs.answer_of.Met as answer-thm
 use Rattle.answers.proofs.hand_errors.Symbol as hand-def
 use Rattle.answers.proofs.hand_errors.Symbol.{name as #answers·hand-errors}
 use Rattle.answers.proofs.hand_errors.Met as hand-thm
@@ -185,7 +186,7 @@ module _ {M : Type 1} (𝓤 : URA M) (H : Heap 𝓤) (A : Atoms 𝓤) (W : Given
       (‵ (flft κ0 q0) ∷ ‵ (flft κ1 q1) ∷ ‵ (flft κ2 q2) ∷ ‵ (flft κ3 q3) ∷ ‵ (flft κ4 q4) ∷ ‵ (flft κ5 q5) ∷ ‵ (flft κ6 q6) ∷ ‵ (flft κ7 q7) ∷ ‵ (flft κ8 q8) ∷ ‵ (flft κ9 q9) ∷ ‵ ftrue ∷ [])
       (‵ ftrue ∷ ‵ (finally u16 (rows .name) (zs .1 .0)) ∷ ‵ (finally u16 (cells .name) (zs .1 .1 .0)) ∷ ‵ (finally u16 (nodes .name) (zs .1 .1 .1 .0)) ∷ ‵ (finally u16 (vars .name) (zs .1 .1 .1 .1 .0)) ∷ ‵ (finally u16 (types .name) (zs .1 .1 .1 .1 .1 .0)) ∷ ‵ (finally E.the-row (errors .name) us) ∷ ‵ (finally u16 (log .name) (zs .1 .1 .1 .1 .1 .1 .1 .0)) ∷ ‵ (finally u16 (memory .name) vs) ∷ ‵ (finally u8 (out .name) (zs .1 .1 .1 .1 .1 .1 .1 .1 .1 .0)) ∷ ‵ ftrue ∷ []) (‵ (B.the-row .own r (w ∷ [])) ∷ []) (0 ∷ 0 ∷ 0 ∷ 0 ∷ 0 ∷ 0 ∷ 9 ∷ 0 ∷ 8 ∷ 0 ∷ 10 ∷ 10 ∷ 0 ∷ 0 ∷ 0 ∷ 0 ∷ 0 ∷ 2 ∷ 0 ∷ 1 ∷ 0 ∷ 1 ∷ 0 ∷ []) refl)
 
-  module _ (C : Calls 𝓤 H) (Λ : Loops 𝓤 H) (fm : FmC 𝓤 H (W .laws) C) (known-tables : Triple 𝓤 (C #report·report-tables) (TablesC 𝓤 H A mem run)) (known-answer : Triple 𝓤 (C #report·answer-of) (AnswerC 𝓤 H A mem run)) (known-hand : Triple 𝓤 (C #answers·hand-errors) (Hand 𝓤 H A mem run)) where
+  module _ (C : Calls 𝓤 H) (Λ : Loops 𝓤 H) (fm : FmC 𝓤 H (W .laws) C) (known-tables : Triple 𝓤 (C #report·report-tables) (TablesC 𝓤 H A mem run)) (known-answer : Triple 𝓤 (C #report-text·answer-of) (AnswerC 𝓤 H A mem run)) (known-hand : Triple 𝓤 (C #answers·hand-errors) (Hand 𝓤 H A mem run)) where
     -- the walk
     walk : ent 𝓤 (onEntry 𝓤 H A report′.signature (κ0, (κ1, (κ2, (κ3, (κ4, (κ5, (κ6, (κ7, (κ8, (κ9, tt)))))))))) (q0, (q1, (q2, (q3, (q4, (q5, (q6, (q7, (q8, (q9, tt)))))))))) a vals) (WpFn 𝓤 H C Λ code.function (at src ∷ at rows ∷ at cells ∷ at nodes ∷ at vars ∷ at types ∷ at errors ∷ at log ∷ at memory ∷ at out ∷ []) Post)
     walk =
@@ -240,14 +241,14 @@ module _ {M : Type 1} (𝓤 : URA M) (H : Heap 𝓤) (A : Atoms 𝓤) (W : Given
 
 module _ {M : Type 1} (𝓤 : URA M) (H : Heap 𝓤) (A : Atoms 𝓤) (W : Given 𝓤 H A) (mem : Memory → SProp 𝓤) (run : Routine → Fun 𝓤) where
   -- the walk, at each choice of lifetimes and arguments
-  report-walks : (C : Calls 𝓤 H) (Λ : Loops 𝓤 H) → FmC 𝓤 H (W .laws) C → Triple 𝓤 (C #report·report-tables) (TablesC 𝓤 H A mem run) → Triple 𝓤 (C #report·answer-of) (AnswerC 𝓤 H A mem run) → Triple 𝓤 (C #answers·hand-errors) (Hand 𝓤 H A mem run) → Walks 𝓤 H A report′.ended stayed (WpFn 𝓤 H C Λ code.function) (report′.clauses 𝓤 H A mem run)
+  report-walks : (C : Calls 𝓤 H) (Λ : Loops 𝓤 H) → FmC 𝓤 H (W .laws) C → Triple 𝓤 (C #report·report-tables) (TablesC 𝓤 H A mem run) → Triple 𝓤 (C #report-text·answer-of) (AnswerC 𝓤 H A mem run) → Triple 𝓤 (C #answers·hand-errors) (Hand 𝓤 H A mem run) → Walks 𝓤 H A report′.ended stayed (WpFn 𝓤 H C Λ code.function) (report′.clauses 𝓤 H A mem run)
   report-walks C Λ fm known-tables known-answer known-hand = walked 𝓤 H A report′.ended stayed (report′.clauses 𝓤 H A mem run) (WpFn 𝓤 H C Λ code.function)
       (λ κs. (slice-vals, (slice-vals, (slice-vals, (slice-vals, (slice-vals, (slice-vals, (slice-vals, (slice-vals, (slice-vals, (slice-vals, tt))))))))))) (λ κs. (shr-slice-tells (named 0) (κs .0) u8, (mut-slice-tells (named 1) (κs .1 .0) u16, (mut-slice-tells (named 2) (κs .1 .1 .0) u16, (mut-slice-tells (named 3) (κs .1 .1 .1 .0) u16, (mut-slice-tells (named 4) (κs .1 .1 .1 .1 .0) u16, (mut-slice-tells (named 5) (κs .1 .1 .1 .1 .1 .0) u16, (mut-slice-tells (named 6) (κs .1 .1 .1 .1 .1 .1 .0) E.the-row, (mut-slice-tells (named 7) (κs .1 .1 .1 .1 .1 .1 .1 .0) u16, (mut-slice-tells (named 8) (κs .1 .1 .1 .1 .1 .1 .1 .1 .0) u16, (mut-slice-tells (named 9) (κs .1 .1 .1 .1 .1 .1 .1 .1 .1 .0) u8, tt)))))))))))
       (λ κs qs bounds a g are. via 𝓤 _ (fst∗ 𝓤 _ (emp 𝓤)) (walk 𝓤 H A W mem run (κs .0) (κs .1 .0) (κs .1 .1 .0) (κs .1 .1 .1 .0) (κs .1 .1 .1 .1 .0) (κs .1 .1 .1 .1 .1 .0) (κs .1 .1 .1 .1 .1 .1 .0) (κs .1 .1 .1 .1 .1 .1 .1 .0) (κs .1 .1 .1 .1 .1 .1 .1 .1 .0) (κs .1 .1 .1 .1 .1 .1 .1 .1 .1 .0) (qs .0) (qs .1 .0) (qs .1 .1 .0) (qs .1 .1 .1 .0) (qs .1 .1 .1 .1 .0) (qs .1 .1 .1 .1 .1 .0) (qs .1 .1 .1 .1 .1 .1 .0) (qs .1 .1 .1 .1 .1 .1 .1 .0) (qs .1 .1 .1 .1 .1 .1 .1 .1 .0) (qs .1 .1 .1 .1 .1 .1 .1 .1 .1 .0)
       (a .0) (a .1 .0) (a .1 .1 .0) (a .1 .1 .1 .0) (a .1 .1 .1 .1 .0) (a .1 .1 .1 .1 .1 .0) (a .1 .1 .1 .1 .1 .1 .1 .0) (a .1 .1 .1 .1 .1 .1 .1 .1 .0) (a .1 .1 .1 .1 .1 .1 .1 .1 .1 .0) (a .1 .1 .1 .1 .1 .1 .0) (are .0 .0 .1) (are .1 .0 .0 .1) (are .1 .1 .0 .0 .1) (are .1 .1 .1 .0 .0 .1) (are .1 .1 .1 .1 .0 .0 .1) (are .1 .1 .1 .1 .1 .0 .0 .1) (are .1 .1 .1 .1 .1 .1 .0 .0 .1) (are .1 .1 .1 .1 .1 .1 .1 .0 .0 .1) (are .1 .1 .1 .1 .1 .1 .1 .1 .0 .0 .1) (are .1 .1 .1 .1 .1 .1 .1 .1 .1 .0 .0 .1) C Λ fm known-tables known-answer known-hand))
 
 -- the function's MIR meets the contract
-report-meets : {M : Type 1} (𝓤 : URA M) (H : Heap 𝓤) (A : Atoms 𝓤) → Given 𝓤 H A → (mem : Memory → SProp 𝓤) (run : Routine → Fun 𝓤) (𝓣 : Tables 𝓤 H) → Triple 𝓤 (𝓣 .C #report·report-tables) (TablesC 𝓤 H A mem run) → Triple 𝓤 (𝓣 .C #report·answer-of) (AnswerC 𝓤 H A mem run) → Triple 𝓤 (𝓣 .C #answers·hand-errors) (Hand 𝓤 H A mem run)
+report-meets : {M : Type 1} (𝓤 : URA M) (H : Heap 𝓤) (A : Atoms 𝓤) → Given 𝓤 H A → (mem : Memory → SProp 𝓤) (run : Routine → Fun 𝓤) (𝓣 : Tables 𝓤 H) → Triple 𝓤 (𝓣 .C #report·report-tables) (TablesC 𝓤 H A mem run) → Triple 𝓤 (𝓣 .C #report-text·answer-of) (AnswerC 𝓤 H A mem run) → Triple 𝓤 (𝓣 .C #answers·hand-errors) (Hand 𝓤 H A mem run)
     → Meets 𝓤 H A report′.signature (WpFn 𝓤 H (𝓣 .C) (𝓣 .Λ) code.function) (report′.spec 𝓤 H A mem run)
 report-meets 𝓤 H A W mem run 𝓣 known-tables known-answer known-hand =
     walk-meets 𝓤 H A report′.ended stayed W (goes-dropped 𝓤 H A W 10 (shrSliceOf (0 ∷ []) tt (plain (λ _. u8))) yes (λ κs x f. refl), (goes-gave-slice 𝓤 H A W 10 1 tt (plain (λ _. u16)), (goes-gave-slice 𝓤 H A W 10 2 tt (plain (λ _. u16)), (goes-gave-slice 𝓤 H A W 10 3 tt (plain (λ _. u16)), (goes-gave-slice 𝓤 H A W 10 4 tt (plain (λ _. u16)), (goes-gave-slice 𝓤 H A W 10 5 tt (plain (λ _. u16)), (goes-gave-slice 𝓤 H A W 10 6 tt (plain (λ _. E.the-row)), (goes-gave-slice 𝓤 H A W 10 7 tt (plain (λ _. u16)), (goes-gave-slice 𝓤 H A W 10 8 tt (plain (λ _. u16)), (goes-gave-slice 𝓤 H A W 10 9 tt (plain (λ _. u8)), tt)))))))))) (report′.clauses 𝓤 H A mem run)
@@ -261,5 +262,5 @@ report-spec 𝓤 H 𝓜 𝓖 𝓡 =
     (tables-of 𝓤 H 𝓜 𝓡 code.env .C) (tables-of 𝓤 H 𝓜 𝓡 code.env .Λ) #report·report code.function (code.unfolded 𝓤 H 𝓜 𝓡)
     (report-meets 𝓤 H (𝓖 .A) (givenOf 𝓤 H 𝓜 𝓖) (𝓜 .mem) (𝓡 .run) (tablesOf 𝓤 H 𝓜 (tables-of 𝓤 H 𝓜 𝓡 code.env))
     (cited 𝓤 H (TablesC 𝓤 H (𝓖 .A) (𝓜 .mem) (𝓡 .run)) 𝓜 𝓡 code.env #report·report-tables tables-def.routine code.calls-report·report-tables (tables-thm.met 𝓤 H 𝓜 𝓖 𝓡))
-    (cited 𝓤 H (AnswerC 𝓤 H (𝓖 .A) (𝓜 .mem) (𝓡 .run)) 𝓜 𝓡 code.env #report·answer-of answer-def.routine code.calls-report·answer-of (answer-thm.met 𝓤 H 𝓜 𝓖 𝓡))
+    (cited 𝓤 H (AnswerC 𝓤 H (𝓖 .A) (𝓜 .mem) (𝓡 .run)) 𝓜 𝓡 code.env #report-text·answer-of answer-def.routine code.calls-report-text·answer-of (answer-thm.met 𝓤 H 𝓜 𝓖 𝓡))
     (cited 𝓤 H (Hand 𝓤 H (𝓖 .A) (𝓜 .mem) (𝓡 .run)) 𝓜 𝓡 code.env #answers·hand-errors hand-def.routine code.calls-answers·hand-errors (hand-thm.met 𝓤 H 𝓜 𝓖 𝓡)))

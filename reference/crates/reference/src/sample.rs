@@ -277,7 +277,7 @@ const HEAD: &str = "\
 #   a blank, and the text of the report, / for a line feed; where the output is too short, answer=9,-/ and the answer line of the check
 #
 # If the sign before the last of a name is !, the last says which tables are lent: R, C, N, V, T, E, M the table of rows, cells, nodes,
-# variables, made types, errors, memory one cell too short; L every table eight cells longer; 0, 2, 3, 4 a log of so many cells. Else
+# variables, made types, errors, memory one cell too short; L every table nine cells longer; 0, 2, 3, 4 a log of so many cells. Else
 # every table has the length it has to have, and the log 6,144 cells. Behind that @ and a number are the bytes of output, at most
 # 131,072; without it they are 65,536.
 #

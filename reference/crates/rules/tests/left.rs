@@ -42,7 +42,7 @@ fn the_hash_is_that_of_all_cells() {
     // RAW 1 and FINAL 1 of the one node; the equation (1, 1) and its answer 0.
     let node = [(0, 0, 1), (0, 1, 1), (0, 4, 1), (0, 5, 1)];
     let all = [&node[..], &[(4, 0, 1), (4, 1, 1)]].concat();
-    let (whole, longer) = (hash(0, 6_144, &all), hash(8, 6_152, &all));
+    let (whole, longer) = (hash(0, 6_144, &all), hash(9, 6_153, &all));
     let (none, two) = (hash(0, 0, &node), hash(0, 2, &node));
     for (name, hash) in [("x", whole), ("x!L", longer), ("x!0", none), ("x!2", two), ("x!3", self::hash(0, 3, &all))] {
         assert_eq!(line(BODY, name), format!("{hash},0,0,0,0,1,1 {TEXT}"), "{name}");
