@@ -12,7 +12,6 @@ ghost use Rattle.resolve.specs.Body.{BodyTyped};
 use nodes::Items;
 use record::Equated;
 use record::ErrorKind;
-use record::TypingError;
 use record::Given;
 use record::NodeType;
 use record::Record;
@@ -20,6 +19,7 @@ use record::Ruled;
 use record::Second;
 use record::Span;
 use record::Typed;
+use record::TypingError;
 use type_table::HEAD_ARRAY;
 use type_table::HEAD_INFER_TY;
 use type_table::Kind;
@@ -48,7 +48,7 @@ fn declare_type(rows: &[u16], cells: &[u16], m: &mut [u16], c: Record, i: u16) -
 {
     match nodes::type_row(rows, cells, i) {
         nodes::TypeRow::Array(e) => {
-            let r = record::array_of(m, c, e);
+            let r = running::array_of(m, c, e);
             return given_record(r);
         }
         nodes::TypeRow::Fun(s, o, t) => {
@@ -173,7 +173,7 @@ fn open_type(m: &mut [u16], c: Record, v: VarId) -> Given
         },
         Kind::Regular => {
             let p = origin(m, c, v);
-            let r = record::emit(
+            let r = running::emit(
                 m,
                 c,
                 TypingError {
@@ -216,7 +216,7 @@ fn array(m: &mut [u16], c: Record, x: TypeId, e: TypeId) -> Given
         let r = end(m, c, e);
         let f = r.record;
         let y = r.ty;
-        return record::array_of(m, f, y);
+        return running::array_of(m, f, y);
     }
     Given { record: c, ty: x }
 }

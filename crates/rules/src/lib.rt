@@ -19,7 +19,6 @@ use nodes::Res;
 use nodes::UnOp;
 use record::Equated;
 use record::ErrorKind;
-use record::TypingError;
 use record::Extra;
 use record::Given;
 use record::NodeType;
@@ -28,6 +27,7 @@ use record::Ruled;
 use record::Second;
 use record::Span;
 use record::Typed;
+use record::TypingError;
 use type_table::DefId;
 use type_table::HEAD_ARRAY;
 use type_table::HEAD_ERROR;
@@ -62,7 +62,7 @@ pub const DIVERGES: u16 = 13;
 fn own_error(m: &mut [u16], c: Record, k: ErrorKind, p: Span, a: u16, b: u16) -> Record
     ensures { λ r. ⌜ Runs (now (m .entry)) c (now (m .exit)) r (error (own-error k p a b)) tt ⌝ }
 {
-    record::emit(
+    running::emit(
         m,
         c,
         TypingError {
@@ -147,7 +147,7 @@ fn equate_on(m: &mut [u16], c: Record, n: NodeId, x: TypeId, y: TypeId, e: Typin
 pub fn literal(m: &mut [u16], c: Record, k: Kind) -> Typed
     ensures { λ r. ⌜ Types (now (m .entry)) c (now (m .exit)) r (new-infer-var (kindOf (kindNumber k)) none) ⌝ }
 {
-    let r = record::new_infer_var(m, c, k, Origin::Literal);
+    let r = running::new_infer_var(m, c, k, Origin::Literal);
     let d = r.record;
     let t = r.ty;
     Typed::Type(d, t)
@@ -340,7 +340,7 @@ pub fn field(
 pub fn list_of(m: &mut [u16], c: Record, e: TypeId) -> Typed
     ensures { λ r. ⌜ Types (now (m .entry)) c (now (m .exit)) r (list-of (e .0)) ⌝ }
 {
-    let r = record::array_of(m, c, e);
+    let r = running::array_of(m, c, e);
     let d = r.record;
     let t = r.ty;
     Typed::Type(d, t)
@@ -350,7 +350,7 @@ pub fn list_of(m: &mut [u16], c: Record, e: TypeId) -> Typed
 pub fn empty_list(m: &mut [u16], c: Record, n: NodeId) -> Typed
     ensures { λ r. ⌜ Types (now (m .entry)) c (now (m .exit)) r (empty-list (n .0)) ⌝ }
 {
-    let r = record::new_infer_var(m, c, Kind::Regular, Origin::Node(n));
+    let r = running::new_infer_var(m, c, Kind::Regular, Origin::Node(n));
     let d = r.record;
     let t = r.ty;
     list_of(m, d, t)
@@ -460,7 +460,7 @@ pub fn let_without_init(m: &mut [u16], c: Record, n: NodeId, t: MaybeType) -> Ru
             Ruled::Done(c)
         }
         MaybeType::Absent => {
-            let r = record::new_infer_var(m, c, Kind::Regular, Origin::Node(n));
+            let r = running::new_infer_var(m, c, Kind::Regular, Origin::Node(n));
             let d = r.record;
             let x = r.ty;
             record::set_node_type(m, n, x);
@@ -637,7 +637,7 @@ fn lambda_param(rows: &[u16], cells: &[u16], m: &mut [u16], c: Record, n: NodeId
             c
         }
         MaybeType::Absent => {
-            let r = record::new_infer_var(m, c, Kind::Regular, Origin::Node(n));
+            let r = running::new_infer_var(m, c, Kind::Regular, Origin::Node(n));
             let d = r.record;
             let x = r.ty;
             record::set_node_type(m, n, x);
@@ -665,7 +665,7 @@ pub fn lambda_params(rows: &[u16], cells: &[u16], m: &mut [u16], c: Record, t: I
 pub fn lambda_output(m: &mut [u16], c: Record, n: NodeId, t: MaybeType) -> Given
     ensures { λ r. ⌜ Gives (now (m .entry)) c (now (m .exit)) r (lambda-output (n .0) t) ⌝ }
 {
-    let r = record::new_infer_var(m, c, Kind::Regular, Origin::Node(n));
+    let r = running::new_infer_var(m, c, Kind::Regular, Origin::Node(n));
     let d = r.record;
     let v = r.ty;
     match t {
