@@ -1,17 +1,19 @@
 -- What each return and turn of a function over rows as numbers shows, over plain variables. Assumes nothing.
 use mathlib.Core.Path.{_≡_, refl, sym, ap, _∙_}
-use mathlib.Core.List.{List, [], _∷_}
+use mathlib.Core.List.{List, [], _∷_, _++_}
 use Prim.Native.Nat.{ℕ, zero, suc, _+_, _-_, _*_, _/_, _≤_, _<_}
 use native.Mathlib.Omega.{arith}
-use native.Mathlib.Decide.{decLt}
 use native.Mathlib.Numerals.{add-one, towards-suc}
-use lib.ListN.{set, replicate}
+use lib.ListN.{length, set, replicate, take, drop, List·getD-append}
 use lib.Seq.{sets}
 use borrow.Author.Tests.{lt-ltb, le-ltb}
 use Rattle.type_table.specs.Memory.{cell}
 use Rattle.errors.specs.declared.ErrorRow.{ErrorRow}
 use Rattle.errors.specs.Rows.{zeroRow, rowAt, filledTo}
-use Rattle.flat_report.specs.Flat.{held-rows, rowFrom, rowNumbers, rowsFrom, rowsIn, putTo}
+use Rattle.answers.specs.Lent.{lent}
+use Rattle.report_text.specs.declared.Reported.{Reported}
+use Rattle.report.specs.Report.{told, reportOf}
+use Rattle.flat_report.specs.Flat.{held-rows, rowFrom, rowNumbers, rowsFrom, rowsIn, putTo, Flat}
 
 -- ── a row ──
 
@@ -80,3 +82,21 @@ put-done t u h i n a b p = p ∙ ap (putTo t h) (meet a b)
   where
     meet : i ≤ n → n ≤ i → i ≡ n
     meet a b = omega arith
+
+-- ── the report ──
+
+-- of two tables one behind the other, rows of the first are written
+put-first : (t : List ℕ) (z h : List ErrorRow) (n : ℕ) → n ≤ length z → putTo t (z ++ h) n ≡ putTo t z n
+unfolding putTo
+put-first t z h zero l = refl
+put-first t z h (suc i) l = rw (put-first t z h i (omega arith), List·getD-append z h zeroRow i (omega arith))
+
+-- h is what `rows_of` returned, n what `rows_in` returned, z the last rows of `report`
+pub flat-law : (s rows cells nodes vars types errors log memory out : List ℕ) (r : Reported) (rows′ cells′ nodes′ vars′ types′ errors′ log′ memory′ out′ : List ℕ) (h : List ErrorRow) (n : ℕ) (z : List ErrorRow)
+    → h ≡ rowsFrom errors → n ≡ rowsIn (length errors) → length z ≡ n → told r (lent rows′ cells′ nodes′ vars′ types′ z log′ memory′) out′ ≡ reportOf s (lent rows cells nodes vars types (take n h) log memory) out
+    → errors′ ≡ putTo errors (z ++ drop n h) n → Flat s rows cells nodes vars types errors log memory out r rows′ cells′ nodes′ vars′ types′ errors′ log′ memory′ out′
+flat-law s rows cells nodes vars types errors log memory out r rows′ cells′ nodes′ vars′ types′ errors′ log′ memory′ out′ h n z p q l st w = record {
+  last = z;
+  stands = rw (← p, ← q) st;
+  written = rw (← q) (w ∙ put-first errors z (drop n h) n (omega (arith, l)));
+}

@@ -1,14 +1,17 @@
 -- Rows of errors as numbers, nine for each, and the report over them. Definitions alone.
 use mathlib.Core.Path.{_≡_}
-use mathlib.Core.List.{List, [], _∷_, _++_}
+use mathlib.Core.List.{List, [], _∷_}
 use mathlib.Core.Bool.{cond}
 use Prim.Native.Nat.{ℕ, zero, suc, _+_, _*_, _/_}
-use lib.ListN.{length, replicate, take, drop}
+use lib.ListN.{length, replicate, take}
 use lib.Seq.{sets}
 use lib.Dec.{ltb}
 use Rattle.type_table.specs.Memory.{cell}
 use Rattle.errors.specs.declared.ErrorRow.{ErrorRow}
 use Rattle.errors.specs.Rows.{zeroRow, rowAt, filledTo}
+use Rattle.answers.specs.Lent.{lent}
+use Rattle.report_text.specs.declared.Reported.{Reported}
+use Rattle.report.specs.Report.{told, reportOf}
 
 -- how many rows are held
 abbrev pub held-rows : ℕ
@@ -44,3 +47,10 @@ rowsIn n = cond (ltb (n / 9) held-rows) (n / 9) held-rows
 unfoldable pub putTo : List ℕ → List ErrorRow → ℕ → List ℕ
 putTo t h zero = t
 putTo t h (suc i) = sets (putTo t h i) (i * 9) (rowNumbers (rowAt h i))
+
+-- `report_flat`: answer, tables and output are those of `report` with the rows that the numbers stand for, and its last rows are written over the numbers
+pub record Flat (s rows cells nodes vars types errors log memory out : List ℕ) (r : Reported) (rows′ cells′ nodes′ vars′ types′ errors′ log′ memory′ out′ : List ℕ) : Type 0 where
+  -- the last rows
+  pub last : List ErrorRow
+  pub stands : told r (lent rows′ cells′ nodes′ vars′ types′ last log′ memory′) out′ ≡ reportOf s (lent rows cells nodes vars types (take (rowsIn (length errors)) (rowsFrom errors)) log memory) out
+  pub written : errors′ ≡ putTo errors last (rowsIn (length errors))

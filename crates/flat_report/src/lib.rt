@@ -4,7 +4,7 @@ ghost use Prim.Native.Nat.{_*_, _≤_};
 ghost use lib.ListN.{set};
 ghost use lib.Seq.{sets};
 ghost use Rattle.type_table.specs.Memory.{cell};
-ghost use Rattle.flat_report.specs.Flat.{held-rows, rowFrom, rowNumbers, rowsFrom, rowsIn, putTo};
+ghost use Rattle.flat_report.specs.Flat.{held-rows, rowFrom, rowNumbers, rowsFrom, rowsIn, putTo, Flat};
 use errors::ErrorRow;
 use report_text::Reported;
 
@@ -118,7 +118,9 @@ pub fn report_flat(
     log: &mut [u16],
     memory: &mut [u16],
     out: &mut [u8],
-) -> Reported {
+) -> Reported
+    ensures { λ r. ⌜ Flat (now (s .entry)) (now (rows .entry)) (now (cells .entry)) (now (nodes .entry)) (now (vars .entry)) (now (types .entry)) (now (errors .entry)) (now (log .entry)) (now (memory .entry)) (now (out .entry)) r (now (rows .exit)) (now (cells .exit)) (now (nodes .exit)) (now (vars .exit)) (now (types .exit)) (now (errors .exit)) (now (log .exit)) (now (memory .exit)) (now (out .exit)) ⌝ }
+{
     let mut held = rows_of(errors);
     let n = rows_in(errors.len());
     let r = report::report(

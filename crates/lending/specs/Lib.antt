@@ -1,4 +1,5 @@
 pub mod Slices
+pub mod Part
 pub mod Sorts
 pub mod Frees
 pub mod Unit

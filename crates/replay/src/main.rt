@@ -28,9 +28,7 @@ fn run_report(
     memory: &mut [u16],
     out: &mut [u8],
 ) -> bool {
-    let r = flat_report::report_flat(
-        s, rows, cells, nodes, vars, types, errors, log, memory, out,
-    );
+    let r = flat_report::report_flat(s, rows, cells, nodes, vars, types, errors, log, memory, out);
     samples::agree(
         name,
         s,
