@@ -97,6 +97,6 @@ pub flat-law : (s rows cells nodes vars types errors log memory out : List ℕ) 
     → errors′ ≡ putTo errors (z ++ drop n h) n → Flat s rows cells nodes vars types errors log memory out r rows′ cells′ nodes′ vars′ types′ errors′ log′ memory′ out′
 flat-law s rows cells nodes vars types errors log memory out r rows′ cells′ nodes′ vars′ types′ errors′ log′ memory′ out′ h n z p q l st w = record {
   last = z;
-  stands = rw (← p, ← q) st;
-  written = rw (← q) (w ∙ put-first errors z (drop n h) n (omega (arith, l)));
+  stands = st ∙ ap (λ (e : List ErrorRow). reportOf s (lent rows cells nodes vars types e log memory) out) (ap (take n) p ∙ ap (λ (k : ℕ). take k (rowsFrom errors)) q);
+  written = w ∙ put-first errors z (drop n h) n (omega (arith, l)) ∙ ap (putTo errors z) q;
 }
