@@ -124,39 +124,6 @@ pub const FORM_PATH: u16 = 28;
 // How many there are.
 pub const MOST_FORMS: usize = 30;
 
-const FORMS: [Form; 30] = [
-    Form(LOW_TYPE, NOTHING, NOTHING, NOTHING, 1, 1), // type=array,E
-    Form(FREE, LOW_TYPE, LOW_TYPE, LOW_TYPE, 2, 18), // type=fun,SPAN,OUT,IN..
-    Form(INST_AHEAD, NOTHING, NOTHING, NOTHING, 1, 1), // type=inst,K
-    Form(DEF_AHEAD, NOTHING, NOTHING, NOTHING, 1, 1), // type=fn,D
-    Form(TYPE, TYPE, TYPE, TYPE, 1, 17), // def=OUT,IN..
-    Form(NAMED_TYPE, NAMED_TYPE, NAMED_TYPE, NAMED_TYPE, 0, 64), // inst=NAME:TYPE,..
-    Form(TYPE, NAMED_DEF, NAMED_DEF, NAMED_DEF, 1, 65), // bind=TYPE,NAME:DEF,..
-    Form(NOTHING, NOTHING, NOTHING, NOTHING, 0, 0), // node=bool
-    Form(NOTHING, NOTHING, NOTHING, NOTHING, 0, 0), // node=int
-    Form(NOTHING, NOTHING, NOTHING, NOTHING, 0, 0), // node=float
-    Form(NOTHING, NOTHING, NOTHING, NOTHING, 0, 0), // node=str
-    Form(BIN_OP, EXPR, EXPR, NOTHING, 3, 3), // node=bin,OP,L,R
-    Form(UN_OP, EXPR, NOTHING, NOTHING, 2, 2), // node=un,OP,E
-    Form(EXPR, FREE, NOTHING, NOTHING, 2, 2), // node=field,E,NAME
-    Form(EXPR, EXPR, EXPR, EXPR, 0, 64), // node=list,E..
-    Form(EXPR, EXPR, NOTHING, NOTHING, 2, 2), // node=index,THING,I
-    Form(EXPR, EXPR, NOTHING, NOTHING, 2, 2), // node=assign,V,E
-    Form(EXPR, EXPR, NOTHING, NOTHING, 2, 2), // node=opassign,V,E
-    Form(EXPR, BLOCK, OPT_EXPR, NOTHING, 3, 3), // node=if,C,BLOCK,E|-
-    Form(BLOCK, NOTHING, NOTHING, NOTHING, 1, 1), // node=loop,BLOCK
-    Form(NOTHING, NOTHING, NOTHING, NOTHING, 0, 0), // node=break
-    Form(EXPR, EXPR, EXPR, EXPR, 1, 65), // node=call,F,A..
-    Form(EXPR, FREE, EXPR, EXPR, 2, 66), // node=mcall,R,NAME,A..
-    Form(OPT_EXPR, NOTHING, NOTHING, NOTHING, 1, 1), // node=return,E|-
-    Form(OPT_EXPR, STMT, STMT, STMT, 1, 65), // node=block,TAIL|-,S..
-    Form(OPT_TYPE, OPT_EXPR, NOTHING, NOTHING, 2, 2), // node=let,TYPE|-,E|-
-    Form(OPT_TYPE, NOTHING, NOTHING, NOTHING, 1, 1), // node=param,TYPE|-
-    Form(OPT_TYPE, EXPR, PARAM, PARAM, 2, 18), // node=lambda,OUT|-,BODY,P..
-    Form(RESOLUTION, FREE, SEGMENT, SEGMENT, 2, 66), // node=path,RES,RESOLVED,NAME:RES..
-    Form(TYPE, BODY, TYPED_PARAM, TYPED_PARAM, 2, 18), // fn=OUT,BODY,P..
-];
-
 // What a field holds: a name; a tag, which is 0 for `-`, 1 for a number and 1 to 6 for l f c i e o; and a value.
 pub struct Cell {
     pub name: u16,
@@ -283,10 +250,39 @@ pub fn kind_at(f: Form, i: usize) -> u8
 pub fn form_at(i: usize) -> Form
     ensures { λ r. ⌜ r ≡ formAt i ⌝ }
 {
-    if i < MOST_FORMS {
-        return FORMS[i];
+    match i {
+        0 => Form(LOW_TYPE, NOTHING, NOTHING, NOTHING, 1, 1), // type=array,E
+        1 => Form(FREE, LOW_TYPE, LOW_TYPE, LOW_TYPE, 2, 18), // type=fun,SPAN,OUT,IN..
+        2 => Form(INST_AHEAD, NOTHING, NOTHING, NOTHING, 1, 1), // type=inst,K
+        3 => Form(DEF_AHEAD, NOTHING, NOTHING, NOTHING, 1, 1), // type=fn,D
+        4 => Form(TYPE, TYPE, TYPE, TYPE, 1, 17), // def=OUT,IN..
+        5 => Form(NAMED_TYPE, NAMED_TYPE, NAMED_TYPE, NAMED_TYPE, 0, 64), // inst=NAME:TYPE,..
+        6 => Form(TYPE, NAMED_DEF, NAMED_DEF, NAMED_DEF, 1, 65), // bind=TYPE,NAME:DEF,..
+        7 => Form(NOTHING, NOTHING, NOTHING, NOTHING, 0, 0), // node=bool
+        8 => Form(NOTHING, NOTHING, NOTHING, NOTHING, 0, 0), // node=int
+        9 => Form(NOTHING, NOTHING, NOTHING, NOTHING, 0, 0), // node=float
+        10 => Form(NOTHING, NOTHING, NOTHING, NOTHING, 0, 0), // node=str
+        11 => Form(BIN_OP, EXPR, EXPR, NOTHING, 3, 3), // node=bin,OP,L,R
+        12 => Form(UN_OP, EXPR, NOTHING, NOTHING, 2, 2), // node=un,OP,E
+        13 => Form(EXPR, FREE, NOTHING, NOTHING, 2, 2), // node=field,E,NAME
+        14 => Form(EXPR, EXPR, EXPR, EXPR, 0, 64), // node=list,E..
+        15 => Form(EXPR, EXPR, NOTHING, NOTHING, 2, 2), // node=index,THING,I
+        16 => Form(EXPR, EXPR, NOTHING, NOTHING, 2, 2), // node=assign,V,E
+        17 => Form(EXPR, EXPR, NOTHING, NOTHING, 2, 2), // node=opassign,V,E
+        18 => Form(EXPR, BLOCK, OPT_EXPR, NOTHING, 3, 3), // node=if,C,BLOCK,E|-
+        19 => Form(BLOCK, NOTHING, NOTHING, NOTHING, 1, 1), // node=loop,BLOCK
+        20 => Form(NOTHING, NOTHING, NOTHING, NOTHING, 0, 0), // node=break
+        21 => Form(EXPR, EXPR, EXPR, EXPR, 1, 65), // node=call,F,A..
+        22 => Form(EXPR, FREE, EXPR, EXPR, 2, 66), // node=mcall,R,NAME,A..
+        23 => Form(OPT_EXPR, NOTHING, NOTHING, NOTHING, 1, 1), // node=return,E|-
+        24 => Form(OPT_EXPR, STMT, STMT, STMT, 1, 65), // node=block,TAIL|-,S..
+        25 => Form(OPT_TYPE, OPT_EXPR, NOTHING, NOTHING, 2, 2), // node=let,TYPE|-,E|-
+        26 => Form(OPT_TYPE, NOTHING, NOTHING, NOTHING, 1, 1), // node=param,TYPE|-
+        27 => Form(OPT_TYPE, EXPR, PARAM, PARAM, 2, 18), // node=lambda,OUT|-,BODY,P..
+        28 => Form(RESOLUTION, FREE, SEGMENT, SEGMENT, 2, 66), // node=path,RES,RESOLVED,NAME:RES..
+        29 => Form(TYPE, BODY, TYPED_PARAM, TYPED_PARAM, 2, 18), // fn=OUT,BODY,P..
+        _ => Form(NOTHING, NOTHING, NOTHING, NOTHING, 0, 0),
     }
-    Form(NOTHING, NOTHING, NOTHING, NOTHING, 0, 0)
 }
 
 // The letter that a field is, 0 where it is no single letter.

@@ -1,11 +1,12 @@
 -- What each return and each turn of a loop over the cells of a table shows, over plain variables.
 use mathlib.Core.Path.{_≡_, refl, sym, ap, _∙_}
 use mathlib.Core.List.{List, [], _∷_, _++_, append-nil}
+use mathlib.Core.Logic.{_⊎_, inl, inr}
 use Prim.Native.Nat.{ℕ, suc, _+_, _-_, _*_, _≤_}
 use native.Mathlib.Omega.{arith}
 use native.Mathlib.Numerals.{add-one, towards-suc}
 use lib.ListN.{length, set, replicate, length-replicate, replicate-append-replicate, drop-of-length-le}
-use lib.Seq.{sets, length-sets, sets-eq}
+use lib.Seq.{sets, length-sets, sets-eq, set-out}
 use Rattle.type_table.specs.Memory.{cell}
 use Rattle.tables.specs.Rows.{padded, cellsTo, threeIn}
 use Rattle.tables.specs.RowLaws.{length-cells, length-padded}
@@ -53,9 +54,19 @@ zeros-more t w u i j h p q =
     let z : i + length (replicate {A = ℕ} (j - i) 0) ≡ j = omega (arith, length-replicate {A = ℕ} (j - i) 0) in
     rw (q, p, y, zeros-snoc (j - i), ← sets-behind t i j (replicate (j - i) 0) (0 ∷ []) z)
 
--- the last turn was at the end
-pub zeros-all : (t w : List ℕ) (i j e : ℕ) → w ≡ sets t i (replicate (j - i) 0) → j - i ≤ e - i → e ≤ j → w ≡ sets t i (replicate (e - i) 0)
-zeros-all t w i j e p h l = let z : j - i ≡ e - i = omega arith in rw z at p
+-- stores behind the end change nothing
+sets-out : (t xs : List ℕ) (i : ℕ) → length t ≤ i → sets t i xs ≡ t
+sets-out t [] i h = refl
+sets-out t (x ∷ xs) i h = rw (set-out t i x h) (sets-out t xs (suc i) (omega arith))
+
+-- the last turn was at the end of what is asked for, or of the table
+pub zeros-all : (t w : List ℕ) (i j e n : ℕ) → w ≡ sets t i (replicate (j - i) 0) → i ≤ j → j - i ≤ e - i → n ≤ j → (n ≡ e) ⊎ (n ≡ length t) → w ≡ sets t i (replicate (e - i) 0)
+zeros-all t w i j e n p g h l (inl q) = let z : j - i ≡ e - i = omega arith in rw z at p
+zeros-all t w i j e n p g h l (inr q) =
+    let z : e - i ≡ (j - i) + (e - i - (j - i)) = omega arith in
+    let y : i + length (replicate {A = ℕ} (j - i) 0) ≡ j = omega (arith, length-replicate {A = ℕ} (j - i) 0) in
+    let x : sets w j (replicate (e - i - (j - i)) 0) ≡ w = sets-out w (replicate (e - i - (j - i)) 0) j (rw (p, length-sets t i (replicate (j - i) 0)) (omega arith)) in
+    sym x ∙ ap (λ (v : List ℕ). sets v j (replicate (e - i - (j - i)) 0)) p ∙ sets-behind t i j (replicate (j - i) 0) (replicate (e - i - (j - i)) 0) y ∙ ap (λ (v : List ℕ). sets t i v) (replicate-append-replicate (j - i) (e - i - (j - i)) 0 ∙ ap (λ (k : ℕ). replicate k 0) (sym z))
 
 -- zeros from the first cell on are all that a table holds then
 pub zeros-whole : (t u : List ℕ) → u ≡ sets t 0 (replicate (length t - 0) 0) → u ≡ replicate (length t) 0

@@ -3,6 +3,7 @@
 // not fit into a slice is left out.
 ghost use mathlib.Core.Path.{_≡_};
 ghost use mathlib.Core.List.{_∷_, []};
+ghost use mathlib.Core.Logic.{_⊎_};
 ghost use Prim.Native.Nat.{_+_, _-_, _*_, _≤_};
 ghost use lib.ListN.{length, replicate, set, drop};
 ghost use lib.Seq.{sets};
@@ -82,13 +83,21 @@ fn three_cells(m: &[u16], f: u32, t: &mut [u16], j: u32)
     put(t, j as usize + 2, d);
 }
 
+// The smaller of two numbers.
+fn smaller(a: usize, b: usize) -> usize
+    ensures { λ r. ⌜ (r ≤ a) × (r ≤ b) × ((r ≡ a) ⊎ (r ≡ b)) ⌝ }
+{
+    if a < b { a } else { b }
+}
+
 // Zeros from the cell i to the cell e.
 fn zero_cells(t: &mut [u16], i: usize, e: usize)
     ensures { λ _. ⌜ now (t .exit) ≡ sets (now (t .entry)) i (replicate (e - i) 0) ⌝ }
 {
+    let n = smaller(e, t.len());
     let mut j = i;
-    while j < e {
-        put(t, j, 0);
+    while j < n {
+        t[j] = 0;
         j += 1;
     }
 }
