@@ -2,6 +2,7 @@
 use native.Mathlib.Omega.{arith}
 use native.Mathlib.Numerals.{add-one, sub-one}
 use mathlib.Core.Path.{_≡_, refl, sym, ap, subst, _∙_}
+use mathlib.Core.Logic.{inl, inr}
 use mathlib.Core.List.{List, [], _∷_, _++_}
 use mathlib.Core.Bool.{Bool, true, false, cond}
 use Prim.Native.Nat.{ℕ, zero, suc, _+_, _-_, _/_, _%_, _≤_, _<_}
@@ -9,9 +10,9 @@ use lib.ListN.{length, drop, take, set, getD, replicate, length-append, length-d
 use lib.Dec.{ltb}
 use borrow.Author.Tests.{ltb-false, ltb-true}
 use lib.Seq.{take-suc, take-all, take-suc-set}
-use Rattle.output.specs.declared.Cursor.{Cursor}
-use Rattle.output.specs.declared.Cursor.the-variants.{At, Full}
-use Rattle.output.specs.Output.{Written, Appends, Finishes, Output, output, ended, zeros, digitsOf}
+use Rattle.output.specs.declared.Ending.{Ending}
+use Rattle.output.specs.declared.Ending.the-variants.{At, Full}
+use Rattle.output.specs.Output.{full, Written, Appends, Finishes, Output, output, ended, zeros, digitsOf}
 use Rattle.output.specs.Appending.{then, appends-as, append-none}
 
 -- ── a byte ──
@@ -28,42 +29,43 @@ next-byte (x ∷ t) [] b lt = absurd (omega (arith, lt))
 next-byte (x ∷ t) (y ∷ o) b lt = ap (λ l. x ∷ l) (next-byte t o b (omega (arith, lt)))
 
 -- a byte with room
-pub put-at : {c : Cursor} (i : ℕ) (x : List ℕ) (b : ℕ) → c ≡ At i → i < length x → Appends (b ∷ []) c x (At (i + 1)) (set x i b)
-put-at i x b e lt = subst (λ c. Appends (b ∷ []) c x (At (i + 1)) (set x i b)) (sym e) (record { appends = λ t o w. at t o w })
+pub put-at : (i : ℕ) (x : List ℕ) (b : ℕ) → i < length x → length x < full → Appends (b ∷ []) i x (i + 1) (set x i b)
+put-at i x b lt short = record { appends = λ t o w. at t o w }
   where
-    at : (t o : List ℕ) → Written t o (At i) x → Written (t ++ (b ∷ [])) o (At (i + 1)) (set x i b)
-    at t o w = (omega (arith, w .0, length-append t (b ∷ [])), omega (arith, less t o w, length-append t (b ∷ [])), ap (λ l. set l i b) (w .2) ∙ ap (λ k. set (t ++ drop (length t) o) k b) (w .0) ∙ next-byte t o b (less t o w))
+    at : (t o : List ℕ) → Written t o i x → Written (t ++ (b ∷ [])) o (i + 1) (set x i b)
+    at t o (inl w) = inl (omega (arith, w .0, length-append t (b ∷ [])), omega (arith, less, length-append t (b ∷ [])), ap (λ l. set l i b) (w .2) ∙ ap (λ k. set (t ++ drop (length t) o) k b) (w .0) ∙ next-byte t o b less)
       where
-        less : (t o : List ℕ) → Written t o (At i) x → length t < length o
-        less t o w = omega (arith, lt, w .0, w .1, ap length (w .2), over-length t o (w .1))
+        less : length t < length o
+        less = omega (arith, lt, w .0, w .1, ap length (w .2), over-length t o (w .1))
+    at t o (inr w) = absurd (omega (arith, lt, short, w .0))
 
 -- a byte without room
-pub put-past : {c : Cursor} (i : ℕ) (x : List ℕ) (b : ℕ) → c ≡ At i → length x ≤ i → Appends (b ∷ []) c x Full x
-put-past i x b e ge = subst (λ c. Appends (b ∷ []) c x Full x) (sym e) (record { appends = λ t o w. (omega (arith, ge, w .0, w .1, ap length (w .2), over-length t o (w .1), length-append t (b ∷ [])), ap length (w .2) ∙ over-length t o (w .1)) })
-
--- a text behind one without room
-pub put-full : {c : Cursor} (u x : List ℕ) → c ≡ Full → Appends u c x Full x
-put-full u x e = subst (λ c. Appends u c x Full x) (sym e) (record { appends = λ t o w. (omega (arith, w .0, length-append t u), w .1) })
+pub put-past : (i : ℕ) (x : List ℕ) (b : ℕ) → length x ≤ i → Appends (b ∷ []) i x full x
+put-past i x b ge = record { appends = λ t o w. past t o w }
+  where
+    past : (t o : List ℕ) → Written t o i x → Written (t ++ (b ∷ [])) o full x
+    past t o (inl w) = inr (refl, omega (arith, ge, w .0, w .1, ap length (w .2), over-length t o (w .1), length-append t (b ∷ [])), ap length (w .2) ∙ over-length t o (w .1))
+    past t o (inr w) = inr (refl, omega (arith, w .1, length-append t (b ∷ [])), w .2)
 
 -- ── bytes ──
 
 -- the first i bytes of a text, and the next
-pub next-of : (s : List ℕ) (i : ℕ) {c d e : Cursor} {x y z : List ℕ} → i < length s → Appends (take i s) c x d y → Appends (getD s i 0 ∷ []) d y e z → Appends (take (i + 1) s) c x e z
+pub next-of : (s : List ℕ) (i : ℕ) {c d e : ℕ} {x y z : List ℕ} → i < length s → Appends (take i s) c x d y → Appends (getD s i 0 ∷ []) d y e z → Appends (take (i + 1) s) c x e z
 next-of s i lt p q = appends-as (sym (take-suc s i 0 lt) ∙ ap (λ k. take k s) (sym (add-one i))) (then p q)
 
 -- all bytes
-pub all-of : (s : List ℕ) (i : ℕ) {c d : Cursor} {x y : List ℕ} → length s ≤ i → Appends (take i s) c x d y → Appends s c x d y
+pub all-of : (s : List ℕ) (i : ℕ) {c d : ℕ} {x y : List ℕ} → length s ≤ i → Appends (take i s) c x d y → Appends s c x d y
 all-of s i ge p = appends-as (take-all i s ge) p
 
 -- ── digits ──
 
 -- no digit
-pub no-digits : {k : ℕ} (n : ℕ) (c : Cursor) (x : List ℕ) → k ≡ 0 → Appends (digitsOf k n) c x c x
+pub no-digits : {k : ℕ} (n : ℕ) (c : ℕ) (x : List ℕ) → k ≡ 0 → Appends (digitsOf k n) c x c x
 unfolding digitsOf
 no-digits n c x e = subst (λ k. Appends (digitsOf k n) c x c x) (sym e) (append-none c x)
 
 -- one digit
-pub one-digit : {k n b : ℕ} {c d : Cursor} {x y : List ℕ} → (k ≡ 0 → ⊥) → n < 10 → b ≡ 48 + n % 10 → Appends (b ∷ []) c x d y → Appends (digitsOf k n) c x d y
+pub one-digit : {k n b : ℕ} {c d : ℕ} {x y : List ℕ} → (k ≡ 0 → ⊥) → n < 10 → b ≡ 48 + n % 10 → Appends (b ∷ []) c x d y → Appends (digitsOf k n) c x d y
 unfolding digitsOf
 one-digit {k = zero} ne lt e p = absurd (ne refl)
 one-digit {k = suc k} {n = n} ne lt e p = appends-as (ap (λ a. a ∷ []) e ∙ by (ltb n 10) refl) p
@@ -73,7 +75,7 @@ one-digit {k = suc k} {n = n} ne lt e p = appends-as (ap (λ a. a ∷ []) e ∙ 
     by false h = absurd (omega (arith, lt, ltb-false n 10 h))
 
 -- a digit behind others
-pub more-digits : {k n b : ℕ} {c d e : Cursor} {x y z : List ℕ} → (k ≡ 0 → ⊥) → 10 ≤ n → b ≡ 48 + n % 10 → Appends (digitsOf (k - 1) (n / 10)) c x d y → Appends (b ∷ []) d y e z → Appends (digitsOf k n) c x e z
+pub more-digits : {k n b : ℕ} {c d e : ℕ} {x y z : List ℕ} → (k ≡ 0 → ⊥) → 10 ≤ n → b ≡ 48 + n % 10 → Appends (digitsOf (k - 1) (n / 10)) c x d y → Appends (b ∷ []) d y e z → Appends (digitsOf k n) c x e z
 unfolding digitsOf
 more-digits {k = zero} ne ge e p q = absurd (ne refl)
 more-digits {k = suc k} {n = n} ne ge e p q = appends-as (ap (λ a. digitsOf k (n / 10) ++ (a ∷ [])) e ∙ by (ltb n 10) refl) (then (appends-as (ap (λ j. digitsOf j (n / 10)) (sub-one (suc k))) p) q)
@@ -85,22 +87,24 @@ more-digits {k = suc k} {n = n} ne ge e p q = appends-as (ap (λ a. digitsOf k (
 -- ── the end ──
 
 -- a text that had room
-pub finish-at : {c : Cursor} (n : ℕ) (x : List ℕ) → c ≡ At n → Finishes c x (At n) x
+pub finish-at : (n : ℕ) (x : List ℕ) → (n ≡ full → ⊥) → Finishes n x (At n) x
 unfolding ended
-finish-at n x e = subst (λ c. Finishes c x (At n) x) (sym e) (record { finishes = λ t o w. by t o w (ltb (length o) (length t)) refl })
+finish-at n x ne = record { finishes = λ t o w. by t o w (ltb (length o) (length t)) refl }
   where
-    by : (t o : List ℕ) → Written t o (At n) x → (b : Bool) → ltb (length o) (length t) ≡ b → output (At n) x ≡ cond b (output Full (zeros o)) (output (At (length t)) (t ++ drop (length t) o))
-    by t o w true e = absurd (omega (arith, ltb-true (length o) (length t) e, w .1))
-    by t o w false e = ap (λ k. output (At k) x) (w .0) ∙ ap (λ l. output (At (length t)) l) (w .2)
+    by : (t o : List ℕ) → Written t o n x → (b : Bool) → ltb (length o) (length t) ≡ b → output (At n) x ≡ cond b (output Full (zeros o)) (output (At (length t)) (t ++ drop (length t) o))
+    by t o (inl w) true e = absurd (omega (arith, ltb-true (length o) (length t) e, w .1))
+    by t o (inl w) false e = ap (λ k. output (At k) x) (w .0) ∙ ap (λ l. output (At (length t)) l) (w .2)
+    by t o (inr w) b e = absurd (ne (w .0))
 
 -- a text that had none
-pub finish-full : {c : Cursor} {x y : List ℕ} → c ≡ Full → y ≡ zeros x → Finishes c x Full y
+pub finish-full : {n : ℕ} {x y : List ℕ} → n ≡ full → length x < full → y ≡ zeros x → Finishes n x Full y
 unfolding ended
-finish-full {x = x} {y = y} e z = subst (λ c. Finishes c x Full y) (sym e) (subst (λ y. Finishes Full x Full y) (sym z) (record { finishes = λ t o w. by t o w (ltb (length o) (length t)) refl }))
+finish-full {n = n} {x = x} {y = y} e short z = subst (λ y. Finishes n x Full y) (sym z) (record { finishes = λ t o w. by t o w (ltb (length o) (length t)) refl })
   where
-    by : (t o : List ℕ) → Written t o Full x → (b : Bool) → ltb (length o) (length t) ≡ b → output Full (zeros x) ≡ cond b (output Full (zeros o)) (output (At (length t)) (t ++ drop (length t) o))
-    by t o w true e = ap (λ k. output Full (replicate k 0)) (w .1)
-    by t o w false e = absurd (omega (arith, ltb-false (length o) (length t) e, w .0))
+    by : (t o : List ℕ) → Written t o n x → (b : Bool) → ltb (length o) (length t) ≡ b → output Full (zeros x) ≡ cond b (output Full (zeros o)) (output (At (length t)) (t ++ drop (length t) o))
+    by t o (inl w) b q = absurd (omega (arith, e, short, w .0, w .1, ap length (w .2), over-length t o (w .1)))
+    by t o (inr w) true q = ap (λ k. output Full (replicate k 0)) (w .2)
+    by t o (inr w) false q = absurd (omega (arith, ltb-false (length o) (length t) q, w .1))
 
 -- ── zeros ──
 

@@ -1,12 +1,13 @@
 -- A text as a list of bytes, and what a lent output is with a text written over its first bytes. Definitions alone.
 use mathlib.Core.Path.{_≡_}
 use mathlib.Core.List.{List, [], _∷_, _++_}
+use mathlib.Core.Logic.{_⊎_}
 use mathlib.Core.Bool.{cond}
 use Prim.Native.Nat.{ℕ, zero, suc, _+_, _/_, _%_, _≤_, _<_}
 use lib.ListN.{length, replicate, drop}
 use lib.Dec.{ltb}
-use Rattle.output.specs.declared.Cursor.{Cursor}
-use Rattle.output.specs.declared.Cursor.the-variants.{At, Full}
+use Rattle.output.specs.declared.Ending.{Ending}
+use Rattle.output.specs.declared.Ending.the-variants.{At, Full}
 
 -- ── texts ──
 
@@ -29,13 +30,13 @@ newline = 10 ∷ []
 abbrev pub zeros : List ℕ → List ℕ
 zeros o = replicate (length o) 0
 
--- a cursor, and the bytes of the output
+-- where a text ends, and the bytes of the output
 pub record Output : Type 0 where
-  pub cursor : Cursor
+  pub ending : Ending
   pub bytes : List ℕ
 
-abbrev pub output : Cursor → List ℕ → Output
-output c x = record { cursor = c; bytes = x }
+abbrev pub output : Ending → List ℕ → Output
+output e x = record { ending = e; bytes = x }
 
 -- the output o once the text t is written: its first bytes are t, those after it unchanged; zeros throughout where t has no room
 unfoldable pub ended : List ℕ → List ℕ → Output
@@ -43,15 +44,26 @@ ended t o = cond (ltb (length o) (length t)) (output Full (zeros o)) (output (At
 
 -- ── while a text is written ──
 
--- as far as it goes, the text t was written over the output o; x is what it is now
-abbrev pub Written : List ℕ → List ℕ → Cursor → List ℕ → Type 0
-Written t o (At n) x = (n ≡ length t) × (length t ≤ length o) × (x ≡ t ++ drop (length t) o)
-Written t o Full x = (length o < length t) × (length x ≡ length o)
+-- the cursor behind a byte that had no room
+abbrev pub full : ℕ
+full = 18446744073709551615
+
+-- the text t was written over the output o, and has room; c is the next place, and x what the output is now
+abbrev pub Fits : List ℕ → List ℕ → ℕ → List ℕ → Type 0
+Fits t o c x = (c ≡ length t) × (length t ≤ length o) × (x ≡ t ++ drop (length t) o)
+
+-- the text t has no room in the output o
+abbrev pub Exceeds : List ℕ → List ℕ → ℕ → List ℕ → Type 0
+Exceeds t o c x = (c ≡ full) × (length o < length t) × (length x ≡ length o)
+
+-- as far as it goes, the text t was written over the output o
+abbrev pub Written : List ℕ → List ℕ → ℕ → List ℕ → Type 0
+Written t o c x = Fits t o c x ⊎ Exceeds t o c x
 
 -- from the cursor c and the output x to d and y, the text u came behind what was written, whatever that was
-pub record Appends (u : List ℕ) (c : Cursor) (x : List ℕ) (d : Cursor) (y : List ℕ) : Type 0 where
+pub record Appends (u : List ℕ) (c : ℕ) (x : List ℕ) (d : ℕ) (y : List ℕ) : Type 0 where
   pub appends : (t o : List ℕ) → Written t o c x → Written (t ++ u) o d y
 
 -- whatever text was written, it is ended
-pub record Finishes (c : Cursor) (x : List ℕ) (d : Cursor) (y : List ℕ) : Type 0 where
+pub record Finishes (c : ℕ) (x : List ℕ) (d : Ending) (y : List ℕ) : Type 0 where
   pub finishes : (t o : List ℕ) → Written t o c x → output d y ≡ ended t o

@@ -11,7 +11,7 @@ ghost use Rattle.type_table.specs.Made.{originNumber, pushed};
 ghost use Rattle.type_table.specs.Made.{kindNumber as kindCode};
 ghost use Rattle.type_table.specs.Sound.{fixed-types};
 ghost use Rattle.nodes.specs.Nodes.{itemsOf};
-ghost use Rattle.record.specs.Own.{log-at, rawsOf, blank, nodeType, resTag, resValue, extraTag, extraValue, kindNumber, spanTag, spanValue, secondTag, secondValue, errorWritten};
+ghost use Rattle.record.specs.Own.{errors-at, log-at, rawsOf, blank, nodeType, resTag, resValue, extraTag, extraValue, kindNumber, spanTag, spanValue, secondTag, secondValue, errorWritten};
 ghost use Rattle.record.specs.Steps.{orNil, set-node-type, set-extra, set-final, new-infer-var, array-of, ref-to, fn-def, make-lambda, make-function, mark-var, error, equation};
 ghost use Rattle.record.specs.Encodes.{Encodes, Runs, Does, Gives, Equates};
 ghost use Rattle.record.specs.Operations.{withMade, node-cells, cleared};
@@ -599,13 +599,16 @@ pub fn mark(m: &mut [u16], c: Record, v: VarId)
     type_table::mark(m, d, v);
 }
 
-// Sets the cells of the nodes to 0.
+// Sets the cells of the nodes to 0, where the memory has them.
 fn clear(m: &mut [u16])
-    ensures { λ _. ⌜ now (m .exit) ≡ cleared (now (m .entry)) node-cells ⌝ }
+    ensures { λ _. ⌜ (errors-at ≤ length (now (m .entry)) → now (m .exit) ≡ cleared (now (m .entry)) node-cells) ⌝ }
 {
+    if m.len() < ERRORS_AT {
+        return;
+    }
     let mut i = NODES_AT;
     while i < ERRORS_AT {
-        write(m, i, 0);
+        m[i] = 0;
         i += 1;
     }
 }

@@ -24,7 +24,6 @@ use Rattle.errors.specs.Rows.{errorOf}
 use Rattle.tables.specs.Rows.{cellsTo}
 use Rattle.tables.specs.Types.{inputs-from}
 use Rattle.tables.specs.Read.{cellsAt, madeAt}
-use Rattle.output.specs.declared.Cursor.{Cursor}
 use Rattle.output.specs.Output.{Appends, numberText, newline}
 use Rattle.output.specs.Appending.{append-none, then, appends-as}
 use Rattle.report_text.specs.Lines.{optionText, optionAt, eachText, answerLine, typeText, typeLine, typeLines, kindText, varLine, varLines, extraText, nodeLine, nodeLines, spanText, secondText, valuesOf, errorText, errorLine, errorLines, tablesText, lambdaText, placeText, valueCount, valueCells}
@@ -32,11 +31,11 @@ use Rattle.report_text.specs.Lines.{optionText, optionAt, eachText, answ
 -- ── a number that may be absent ──
 
 -- it is there
-pub option-there : {c d e : Cursor} {x y z : List ℕ} (s t : List ℕ) (i a n : ℕ) → a ≡ cell t i → a ≡ 1 → n ≡ cell t (i + 1) → Appends s c x d y → Appends (numberText n) d y e z → Appends (s ++ optionText (optionAt t i)) c x e z
+pub option-there : {c d e : ℕ} {x y z : List ℕ} (s t : List ℕ) (i a n : ℕ) → a ≡ cell t i → a ≡ 1 → n ≡ cell t (i + 1) → Appends s c x d y → Appends (numberText n) d y e z → Appends (s ++ optionText (optionAt t i)) c x e z
 option-there s t i a n p q r f g = rw (← p, ← r, eq-eqb a 1 q) (then f g)
 
 -- it is not
-pub option-absent : {c d e : Cursor} {x y z : List ℕ} (s t : List ℕ) (i a : ℕ) → a ≡ cell t i → (a ≡ 1 → ⊥) → Appends s c x d y → Appends (text "-") d y e z → Appends (s ++ optionText (optionAt t i)) c x e z
+pub option-absent : {c d e : ℕ} {x y z : List ℕ} (s t : List ℕ) (i a : ℕ) → a ≡ cell t i → (a ≡ 1 → ⊥) → Appends s c x d y → Appends (text "-") d y e z → Appends (s ++ optionText (optionAt t i)) c x e z
 option-absent s t i a p q f g = rw (← p, ne-eqb a 1 q) (then f g)
 
 -- ── numbers after commas ──
@@ -47,18 +46,18 @@ unfolding eachText
 each-more [] x = append-nil (text "," ++ numberText x)
 each-more (y ∷ l) x = ap (λ u. text "," ++ numberText y ++ u) (each-more l x) ∙ sym (append-assoc (text "," ++ numberText y) (eachText l) (text "," ++ numberText x))
 
-pub each-none : (l : List ℕ) (c : Cursor) (x : List ℕ) → Appends (eachText (take 0 l)) c x c x
+pub each-none : (l : List ℕ) (c : ℕ) (x : List ℕ) → Appends (eachText (take 0 l)) c x c x
 unfolding eachText
 each-none l c x = append-none c x
 
-pub each-next : {c d e : Cursor} {x y z : List ℕ} (l : List ℕ) (i : ℕ) → i < length l → Appends (eachText (take i l)) c x d y → Appends (text "," ++ numberText (getD l i 0)) d y e z → Appends (eachText (take (i + 1) l)) c x e z
+pub each-next : {c d e : ℕ} {x y z : List ℕ} (l : List ℕ) (i : ℕ) → i < length l → Appends (eachText (take i l)) c x d y → Appends (text "," ++ numberText (getD l i 0)) d y e z → Appends (eachText (take (i + 1) l)) c x e z
 each-next l i lt f g = appends-as (sym (each-more (take i l) (getD l i 0)) ∙ ap eachText (sym (take-suc l i 0 lt)) ∙ ap (λ k. eachText (take k l)) (sym (add-one i))) (then f g)
 
-pub each-all : {c d : Cursor} {x y : List ℕ} (l : List ℕ) (i : ℕ) → length l ≤ i → Appends (eachText (take i l)) c x d y → Appends (eachText l) c x d y
+pub each-all : {c d : ℕ} {x y : List ℕ} (l : List ℕ) (i : ℕ) → length l ≤ i → Appends (eachText (take i l)) c x d y → Appends (eachText l) c x d y
 each-all l i ge f = appends-as (ap eachText (take-all i l ge)) f
 
 -- a part of a table that begins past its end
-pub part-none : (t : List ℕ) (f k : ℕ) (c : Cursor) (x : List ℕ) → length t < f → Appends (eachText (cellsAt t f k)) c x c x
+pub part-none : (t : List ℕ) (f k : ℕ) (c : ℕ) (x : List ℕ) → length t < f → Appends (eachText (cellsAt t f k)) c x c x
 unfolding eachText
 part-none t f k c x h = appends-as (ap eachText (sym (take-nil k) ∙ ap (take k) (sym (drop-of-length-le t (past h))))) (append-none c x)
   where
@@ -66,11 +65,11 @@ part-none t f k c x h = appends-as (ap eachText (sym (take-nil k) ∙ ap (take k
     past h = omega (arith, h)
 
 -- a part that ends at the end
-pub part-rest : {c d : Cursor} {x y : List ℕ} (t : List ℕ) (f k : ℕ) → length t - f < k → Appends (eachText (take (length t - f) (drop f t))) c x d y → Appends (eachText (cellsAt t f k)) c x d y
+pub part-rest : {c d : ℕ} {x y : List ℕ} (t : List ℕ) (f k : ℕ) → length t - f < k → Appends (eachText (take (length t - f) (drop f t))) c x d y → Appends (eachText (cellsAt t f k)) c x d y
 part-rest t f k h p = appends-as (ap eachText (take-all (length t - f) (drop f t) (omega (arith, length-drop f t)) ∙ sym (take-all k (drop f t) (omega (arith, h, length-drop f t))))) p
 
 -- a part inside
-pub part-inside : {c d : Cursor} {x y : List ℕ} (t : List ℕ) (f k : ℕ) → Appends (eachText (take (f + k - f) (drop f t))) c x d y → Appends (eachText (cellsAt t f k)) c x d y
+pub part-inside : {c d : ℕ} {x y : List ℕ} (t : List ℕ) (f k : ℕ) → Appends (eachText (take (f + k - f) (drop f t))) c x d y → Appends (eachText (cellsAt t f k)) c x d y
 part-inside t f k p = appends-as (ap (λ j. eachText (take j (drop f t))) (less f k)) p
   where
     less : (f k : ℕ) → f + k - f ≡ k
@@ -79,17 +78,17 @@ part-inside t f k p = appends-as (ap (λ j. eachText (take j (drop f t))) (less 
 -- ── rows one after another ──
 
 -- no row
-pub rows-none : (f : ℕ → List ℕ) (c : Cursor) (x : List ℕ) → Appends (cellsTo f 0) c x c x
+pub rows-none : (f : ℕ → List ℕ) (c : ℕ) (x : List ℕ) → Appends (cellsTo f 0) c x c x
 unfolding cellsTo
 rows-none f c x = append-none c x
 
 -- one row more
-pub rows-next : {c d e : Cursor} {x y z : List ℕ} (f : ℕ → List ℕ) (i : ℕ) → Appends (cellsTo f i) c x d y → Appends (f i) d y e z → Appends (cellsTo f (i + 1)) c x e z
+pub rows-next : {c d e : ℕ} {x y z : List ℕ} (f : ℕ → List ℕ) (i : ℕ) → Appends (cellsTo f i) c x d y → Appends (f i) d y e z → Appends (cellsTo f (i + 1)) c x e z
 unfolding cellsTo
 rows-next f i p q = appends-as (ap (cellsTo f) (sym (add-one i))) (then p q)
 
 -- all rows
-pub rows-all : {c d : Cursor} {x y : List ℕ} (f : ℕ → List ℕ) (n i : ℕ) → i ≤ n → n ≤ i → Appends (cellsTo f i) c x d y → Appends (cellsTo f n) c x d y
+pub rows-all : {c d : ℕ} {x y : List ℕ} (f : ℕ → List ℕ) (n i : ℕ) → i ≤ n → n ≤ i → Appends (cellsTo f i) c x d y → Appends (cellsTo f n) c x d y
 rows-all f n i le ge p = appends-as (ap (cellsTo f) (meet le ge)) p
   where
     meet : i ≤ n → n ≤ i → i ≡ n
@@ -116,7 +115,7 @@ made-other t i h e n =
     by false false false false false false false false = refl
 
 -- what a lambda is
-pub made-lambda : {c d : Cursor} {x y : List ℕ} (t : List ℕ) (i h : ℕ) → h ≡ cell t (i * 5) → h ≡ 13 → Appends (lambdaText t i) c x d y → Appends (text "type=" ++ typeText (madeAt t i)) c x d y
+pub made-lambda : {c d : ℕ} {x y : List ℕ} (t : List ℕ) (i h : ℕ) → h ≡ cell t (i * 5) → h ≡ 13 → Appends (lambdaText t i) c x d y → Appends (text "type=" ++ typeText (madeAt t i)) c x d y
 unfolding lambdaText madeAt shapeOf eachText
 made-lambda t i h e k p =
     rw (← e, k) (appends-as (append-assoc (text "type=lambda," ++ numberText (cell t (i * 5 + 1))) (text "," ++ numberText (cell t (i * 5 + 2))) (eachText (cellsAt t (inputs-from + cell t (i * 5 + 3)) (cell t (i * 5 + 4))))) p)
@@ -146,18 +145,18 @@ values-as error.MethodNotFound a b c = refl
 values-as error.InferFail a b c = refl
 
 -- no value, one, two and three of them
-pub values-none : (l : List ℕ) (n : ℕ) (c : Cursor) (x : List ℕ) → n ≡ 0 → Appends (eachText (take n l)) c x c x
+pub values-none : (l : List ℕ) (n : ℕ) (c : ℕ) (x : List ℕ) → n ≡ 0 → Appends (eachText (take n l)) c x c x
 values-none l n c x e = rw e (each-none l c x)
 
-pub values-one : {c d : Cursor} {x y : List ℕ} (r : ErrorRow) (n : ℕ) → n ≡ 1 → Appends (text "," ++ numberText (r .a)) c x d y → Appends (eachText (take n (valueCells r))) c x d y
+pub values-one : {c d : ℕ} {x y : List ℕ} (r : ErrorRow) (n : ℕ) → n ≡ 1 → Appends (text "," ++ numberText (r .a)) c x d y → Appends (eachText (take n (valueCells r))) c x d y
 unfolding eachText
 values-one r n e f = rw e (appends-as (sym (append-nil (text "," ++ numberText (r .a)))) f)
 
-pub values-two : {c d e : Cursor} {x y z : List ℕ} (r : ErrorRow) (n : ℕ) → n ≡ 2 → Appends (text "," ++ numberText (r .a)) c x d y → Appends (text "," ++ numberText (r .b)) d y e z → Appends (eachText (take n (valueCells r))) c x e z
+pub values-two : {c d e : ℕ} {x y z : List ℕ} (r : ErrorRow) (n : ℕ) → n ≡ 2 → Appends (text "," ++ numberText (r .a)) c x d y → Appends (text "," ++ numberText (r .b)) d y e z → Appends (eachText (take n (valueCells r))) c x e z
 unfolding eachText
 values-two r n e f g = rw e (then f (appends-as (sym (append-nil (text "," ++ numberText (r .b)))) g))
 
-pub values-three : {c d e v : Cursor} {x y z w : List ℕ} (r : ErrorRow) (n : ℕ) → (n ≡ 0 → ⊥) → (n ≡ 1 → ⊥) → (n ≡ 2 → ⊥) → Appends (text "," ++ numberText (r .a)) c x d y → Appends (text "," ++ numberText (r .b)) d y e z → Appends (text "," ++ numberText (r .c)) e z v w → Appends (eachText (take n (valueCells r))) c x v w
+pub values-three : {c d e v : ℕ} {x y z w : List ℕ} (r : ErrorRow) (n : ℕ) → (n ≡ 0 → ⊥) → (n ≡ 1 → ⊥) → (n ≡ 2 → ⊥) → Appends (text "," ++ numberText (r .a)) c x d y → Appends (text "," ++ numberText (r .b)) d y e z → Appends (text "," ++ numberText (r .c)) e z v w → Appends (eachText (take n (valueCells r))) c x v w
 unfolding eachText
 values-three r zero p q k f g h = absurd (p refl)
 values-three r (suc zero) p q k f g h = absurd (q refl)
@@ -165,7 +164,7 @@ values-three r (suc (suc zero)) p q k f g h = absurd (k refl)
 values-three r (suc (suc (suc n))) p q k f g h = then f (then g (appends-as (ap (λ l. text "," ++ numberText (r .c) ++ eachText l) (sym (take-nil n)) ∙ refl) (appends-as (sym (append-nil (text "," ++ numberText (r .c)))) h)))
 
 -- the line of an error
-pub error-line : {c d e v w u : Cursor} {x y z a b o : List ℕ} (r : ErrorRow) (n q : ℕ) → n ≡ kindNumber (kindAt (r .kind)) → q ≡ valueCount (kindAt (r .kind)) → Appends (text "error=" ++ numberText n) c x d y → Appends (text "," ++ numberText (r .cause)) d y e z → Appends (placeText (errorOf r)) e z v a → Appends (eachText (take q (valueCells r))) v a w b → Appends newline w b u o → Appends (errorLine r) c x u o
+pub error-line : {c d e v w u : ℕ} {x y z a b o : List ℕ} (r : ErrorRow) (n q : ℕ) → n ≡ kindNumber (kindAt (r .kind)) → q ≡ valueCount (kindAt (r .kind)) → Appends (text "error=" ++ numberText n) c x d y → Appends (text "," ++ numberText (r .cause)) d y e z → Appends (placeText (errorOf r)) e z v a → Appends (eachText (take q (valueCells r))) v a w b → Appends newline w b u o → Appends (errorLine r) c x u o
 unfolding errorLine errorText errorOf
 error-line r n q k l f g h m o =
     then (then (then (then (appends-as (ap (λ j. text "error=" ++ numberText j) k) f) g) h) (appends-as (ap eachText (ap (λ j. take j (valueCells r)) l ∙ values-as (kindAt (r .kind)) (r .a) (r .b) (r .c))) m)) o

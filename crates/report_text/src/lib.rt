@@ -11,7 +11,6 @@ ghost use Rattle.record.specs.Own.{extraOf, kindAt, spanOf, secondOf};
 ghost use Rattle.errors.specs.Rows.{errorOf, rowIn};
 ghost use Rattle.answers.specs.Lent.{errorsUsed};
 ghost use Rattle.tables.specs.Read.{cellsAt, madeAt};
-ghost use Rattle.output.specs.declared.Cursor.the-variants.{At};
 ghost use Rattle.output.specs.Output.{Appends, numberText};
 ghost use Rattle.report_text.specs.Lines.{optionText, optionAt, eachText, answerLine, typeText, typeLine, typeLines, kindText, varLine, varLines, extraText, nodeLine, nodeLines, spanText, secondText, errorLine, errorLines, tablesText, lambdaText, placeText, valueCount, valueCells};
 ghost use Rattle.report_text.specs.Written.{textOf, checkedAnswer, said, written};
@@ -19,7 +18,7 @@ use answers::Answer;
 use answers::Totals;
 use errors::ErrorRow;
 use forms::Fault;
-use output::Cursor;
+use output::Ending;
 
 // What `report` answers.
 pub enum Reported {
@@ -32,14 +31,14 @@ pub enum Reported {
 // ── parts of a line ──
 
 // A comma, and the number of a cell.
-fn put_cell(out: &mut [u8], c: Cursor, t: &[u16], i: usize) -> Cursor
+fn put_cell(out: &mut [u8], c: usize, t: &[u16], i: usize) -> usize
     ensures { λ r. ⌜ Appends (text "," ++ numberText (cell (now (t .entry)) i)) c (now (out .entry)) r (now (out .exit)) ⌝ }
 {
     output::put_field(out, c, b",", refs::at(t, i) as usize)
 }
 
 // Bytes, and the number behind the flag at i; `-` where the flag is not 1.
-fn put_option(out: &mut [u8], c: Cursor, s: &[u8], t: &[u16], i: u32) -> Cursor
+fn put_option(out: &mut [u8], c: usize, s: &[u8], t: &[u16], i: u32) -> usize
     ensures { λ r. ⌜ Appends (now (s .entry) ++ optionText (optionAt (now (t .entry)) i)) c (now (out .entry)) r (now (out .exit)) ⌝ }
 {
     let d = output::put_all(out, c, s);
@@ -52,7 +51,7 @@ fn put_option(out: &mut [u8], c: Cursor, s: &[u8], t: &[u16], i: u32) -> Cursor
 // ── made types ──
 
 // The numbers of some cells, each behind a comma.
-fn put_each(out: &mut [u8], c: Cursor, t: &[u16]) -> Cursor
+fn put_each(out: &mut [u8], c: usize, t: &[u16]) -> usize
     ensures { λ r. ⌜ Appends (eachText (now (t .entry))) c (now (out .entry)) r (now (out .exit)) ⌝ }
 {
     let mut d = c;
@@ -65,7 +64,7 @@ fn put_each(out: &mut [u8], c: Cursor, t: &[u16]) -> Cursor
 }
 
 // The k cells of a table from f on, as many as there are.
-fn put_part(out: &mut [u8], c: Cursor, t: &[u16], f: usize, k: usize) -> Cursor
+fn put_part(out: &mut [u8], c: usize, t: &[u16], f: usize, k: usize) -> usize
     ensures { λ r. ⌜ Appends (eachText (cellsAt (now (t .entry)) f k)) c (now (out .entry)) r (now (out .exit)) ⌝ }
 {
     let n = t.len();
@@ -79,7 +78,7 @@ fn put_part(out: &mut [u8], c: Cursor, t: &[u16], f: usize, k: usize) -> Cursor
 }
 
 // Node, output and inputs of a lambda, the made type of the number i.
-fn put_lambda(out: &mut [u8], c: Cursor, t: &[u16], i: u16) -> Cursor
+fn put_lambda(out: &mut [u8], c: usize, t: &[u16], i: u16) -> usize
     ensures { λ r. ⌜ Appends (lambdaText (now (t .entry)) i) c (now (out .entry)) r (now (out .exit)) ⌝ }
 {
     let at = i as usize * 5;
@@ -97,7 +96,7 @@ fn put_lambda(out: &mut [u8], c: Cursor, t: &[u16], i: u16) -> Cursor
 }
 
 // What the made type of the number i is.
-fn put_made(out: &mut [u8], c: Cursor, t: &[u16], i: u16) -> Cursor
+fn put_made(out: &mut [u8], c: usize, t: &[u16], i: u16) -> usize
     ensures { λ r. ⌜ Appends (text "type=" ++ typeText (madeAt (now (t .entry)) i)) c (now (out .entry)) r (now (out .exit)) ⌝ }
 {
     let at = i as usize * 5;
@@ -115,7 +114,7 @@ fn put_made(out: &mut [u8], c: Cursor, t: &[u16], i: u16) -> Cursor
 }
 
 // The made type of the number i.
-fn put_type(out: &mut [u8], c: Cursor, t: &[u16], i: u16) -> Cursor
+fn put_type(out: &mut [u8], c: usize, t: &[u16], i: u16) -> usize
     ensures { λ r. ⌜ Appends (typeLine (now (t .entry)) i) c (now (out .entry)) r (now (out .exit)) ⌝ }
 {
     let d = put_made(out, c, t, i);
@@ -123,7 +122,7 @@ fn put_type(out: &mut [u8], c: Cursor, t: &[u16], i: u16) -> Cursor
 }
 
 // How many made types there are, and each.
-fn put_types(out: &mut [u8], c: Cursor, t: &[u16], n: u16) -> Cursor
+fn put_types(out: &mut [u8], c: usize, t: &[u16], n: u16) -> usize
     ensures { λ r. ⌜ Appends (typeLines (now (t .entry)) n) c (now (out .entry)) r (now (out .exit)) ⌝ }
 {
     let mut d = output::put_line(out, c, b"types=", n as usize);
@@ -138,7 +137,7 @@ fn put_types(out: &mut [u8], c: Cursor, t: &[u16], n: u16) -> Cursor
 // ── variables ──
 
 // KIND.
-fn put_kind(out: &mut [u8], c: Cursor, k: u16) -> Cursor
+fn put_kind(out: &mut [u8], c: usize, k: u16) -> usize
     ensures { λ r. ⌜ Appends (text "var=" ++ kindText (kindOf k)) c (now (out .entry)) r (now (out .exit)) ⌝ }
 {
     match k {
@@ -149,7 +148,7 @@ fn put_kind(out: &mut [u8], c: Cursor, k: u16) -> Cursor
 }
 
 // The variable v.
-fn put_var(out: &mut [u8], c: Cursor, t: &[u16], v: u16) -> Cursor
+fn put_var(out: &mut [u8], c: usize, t: &[u16], v: u16) -> usize
     ensures { λ r. ⌜ Appends (varLine (now (t .entry)) v) c (now (out .entry)) r (now (out .exit)) ⌝ }
 {
     let at = v as u32 * 6;
@@ -160,7 +159,7 @@ fn put_var(out: &mut [u8], c: Cursor, t: &[u16], v: u16) -> Cursor
 }
 
 // How many variables there are, and each.
-fn put_vars(out: &mut [u8], c: Cursor, t: &[u16], n: u16) -> Cursor
+fn put_vars(out: &mut [u8], c: usize, t: &[u16], n: u16) -> usize
     ensures { λ r. ⌜ Appends (varLines (now (t .entry)) n) c (now (out .entry)) r (now (out .exit)) ⌝ }
 {
     let mut d = output::put_line(out, c, b"vars=", n as usize);
@@ -175,7 +174,7 @@ fn put_vars(out: &mut [u8], c: Cursor, t: &[u16], n: u16) -> Cursor
 // ── nodes ──
 
 // EXTRA, by its tag and its number.
-fn put_extra(out: &mut [u8], c: Cursor, e: u16, n: usize) -> Cursor
+fn put_extra(out: &mut [u8], c: usize, e: u16, n: usize) -> usize
     ensures { λ r. ⌜ Appends (text "," ++ extraText (extraOf e n)) c (now (out .entry)) r (now (out .exit)) ⌝ }
 {
     match e {
@@ -192,7 +191,7 @@ fn put_extra(out: &mut [u8], c: Cursor, e: u16, n: usize) -> Cursor
 }
 
 // The node i: RAW, FINAL, EXTRA.
-fn put_node(out: &mut [u8], c: Cursor, t: &[u16], i: u16) -> Cursor
+fn put_node(out: &mut [u8], c: usize, t: &[u16], i: u16) -> usize
     ensures { λ r. ⌜ Appends (nodeLine (now (t .entry)) i) c (now (out .entry)) r (now (out .exit)) ⌝ }
 {
     let at = i as u32 * 6;
@@ -204,7 +203,7 @@ fn put_node(out: &mut [u8], c: Cursor, t: &[u16], i: u16) -> Cursor
 }
 
 // The nodes.
-fn put_nodes(out: &mut [u8], c: Cursor, t: &[u16], n: u16) -> Cursor
+fn put_nodes(out: &mut [u8], c: usize, t: &[u16], n: u16) -> usize
     ensures { λ r. ⌜ Appends (nodeLines (now (t .entry)) n) c (now (out .entry)) r (now (out .exit)) ⌝ }
 {
     let mut d = c;
@@ -219,7 +218,7 @@ fn put_nodes(out: &mut [u8], c: Cursor, t: &[u16], n: u16) -> Cursor
 // ── errors ──
 
 // P, by its tag and its number.
-fn put_span(out: &mut [u8], c: Cursor, p: u16, n: usize) -> Cursor
+fn put_span(out: &mut [u8], c: usize, p: u16, n: usize) -> usize
     ensures { λ r. ⌜ Appends (text "," ++ spanText (spanOf p n)) c (now (out .entry)) r (now (out .exit)) ⌝ }
 {
     match p {
@@ -230,7 +229,7 @@ fn put_span(out: &mut [u8], c: Cursor, p: u16, n: usize) -> Cursor
 }
 
 // Q, by its flag and its number.
-fn put_second(out: &mut [u8], c: Cursor, q: u16, n: usize) -> Cursor
+fn put_second(out: &mut [u8], c: usize, q: u16, n: usize) -> usize
     ensures { λ r. ⌜ Appends (text "," ++ secondText (secondOf q n)) c (now (out .entry)) r (now (out .exit)) ⌝ }
 {
     if q == 0 {
@@ -259,7 +258,7 @@ fn values(k: u16) -> u16
 }
 
 // The first n values of a row.
-fn put_values(out: &mut [u8], c: Cursor, r: ErrorRow, n: u16) -> Cursor
+fn put_values(out: &mut [u8], c: usize, r: ErrorRow, n: u16) -> usize
     ensures { λ d. ⌜ Appends (eachText (take n (valueCells r))) c (now (out .entry)) d (now (out .exit)) ⌝ }
 {
     if n == 0 {
@@ -277,7 +276,7 @@ fn put_values(out: &mut [u8], c: Cursor, r: ErrorRow, n: u16) -> Cursor
 }
 
 // P and Q of a row.
-fn put_place(out: &mut [u8], c: Cursor, r: ErrorRow) -> Cursor
+fn put_place(out: &mut [u8], c: usize, r: ErrorRow) -> usize
     ensures { λ d. ⌜ Appends (placeText (errorOf r)) c (now (out .entry)) d (now (out .exit)) ⌝ }
 {
     let p = r.span;
@@ -287,7 +286,7 @@ fn put_place(out: &mut [u8], c: Cursor, r: ErrorRow) -> Cursor
 }
 
 // An error, by its row.
-pub fn put_error(out: &mut [u8], c: Cursor, r: ErrorRow) -> Cursor
+pub fn put_error(out: &mut [u8], c: usize, r: ErrorRow) -> usize
     ensures { λ d. ⌜ Appends (errorLine r) c (now (out .entry)) d (now (out .exit)) ⌝ }
 {
     let k = r.kind;
@@ -299,7 +298,7 @@ pub fn put_error(out: &mut [u8], c: Cursor, r: ErrorRow) -> Cursor
 }
 
 // How many errors there are, and each, from the memory of the walk.
-fn put_errors(out: &mut [u8], c: Cursor, m: &[u16], n: u16) -> Cursor
+fn put_errors(out: &mut [u8], c: usize, m: &[u16], n: u16) -> usize
     ensures { λ r. ⌜ Appends (errorLines (rowIn (now (m .entry)) n) n) c (now (out .entry)) r (now (out .exit)) ⌝ }
 {
     let mut d = output::put_line(out, c, b"errors=", n as usize);
@@ -315,19 +314,19 @@ fn put_errors(out: &mut [u8], c: Cursor, m: &[u16], n: u16) -> Cursor
 // ── the report ──
 
 // An answer line without a place.
-fn put_answer(out: &mut [u8], k: usize) -> Cursor
-    ensures { λ r. ⌜ Appends (answerLine k none) (At 0) (now (out .entry)) r (now (out .exit)) ⌝ }
+fn put_answer(out: &mut [u8], k: usize) -> usize
+    ensures { λ r. ⌜ Appends (answerLine k none) 0 (now (out .entry)) r (now (out .exit)) ⌝ }
 {
-    let c = output::put_field(out, Cursor::At(0), b"answer=", k);
+    let c = output::put_field(out, 0, b"answer=", k);
     let d = output::put_all(out, c, b",-");
     output::put(out, d, b'\n')
 }
 
 // An answer line with a place.
-fn put_refusal(out: &mut [u8], k: usize, p: usize) -> Cursor
-    ensures { λ r. ⌜ Appends (answerLine k (some p)) (At 0) (now (out .entry)) r (now (out .exit)) ⌝ }
+fn put_refusal(out: &mut [u8], k: usize, p: usize) -> usize
+    ensures { λ r. ⌜ Appends (answerLine k (some p)) 0 (now (out .entry)) r (now (out .exit)) ⌝ }
 {
-    let c = output::put_field(out, Cursor::At(0), b"answer=", k);
+    let c = output::put_field(out, 0, b"answer=", k);
     let d = output::put_field(out, c, b",", p);
     output::put(out, d, b'\n')
 }
@@ -335,7 +334,7 @@ fn put_refusal(out: &mut [u8], k: usize, p: usize) -> Cursor
 // What stands behind the answer of a body that was checked: t made types, v variables, n nodes, e errors.
 fn put_tables(
     out: &mut [u8],
-    c: Cursor,
+    c: usize,
     t: u16,
     v: u16,
     n: u16,
@@ -344,7 +343,7 @@ fn put_tables(
     vars: &[u16],
     types: &[u16],
     m: &[u16],
-) -> Cursor
+) -> usize
     ensures { λ r. ⌜ Appends (tablesText t v n e (now (nodes .entry)) (now (vars .entry)) (now (types .entry)) (rowIn (now (m .entry)) e)) c (now (out .entry)) r (now (out .exit)) ⌝ }
 {
     let a = put_types(out, c, types, t);
@@ -375,8 +374,8 @@ fn put_checked(
     vars: &[u16],
     types: &[u16],
     m: &[u16],
-) -> Cursor
-    ensures { λ r. ⌜ Appends (textOf (Checked n) (now (nodes .entry)) (now (vars .entry)) (now (types .entry)) (rowIn (now (m .entry)) (n .errors))) (At 0) (now (out .entry)) r (now (out .exit)) ⌝ }
+) -> usize
+    ensures { λ r. ⌜ Appends (textOf (Checked n) (now (nodes .entry)) (now (vars .entry)) (now (types .entry)) (rowIn (now (m .entry)) (n .errors))) 0 (now (out .entry)) r (now (out .exit)) ⌝ }
 {
     let k = n.declared.nodes;
     let t = n.types;
@@ -394,8 +393,8 @@ fn put_report(
     vars: &[u16],
     types: &[u16],
     m: &[u16],
-) -> Cursor
-    ensures { λ r. ⌜ Appends (textOf a (now (nodes .entry)) (now (vars .entry)) (now (types .entry)) (rowIn (now (m .entry)) (errorsUsed a))) (At 0) (now (out .entry)) r (now (out .exit)) ⌝ }
+) -> usize
+    ensures { λ r. ⌜ Appends (textOf a (now (nodes .entry)) (now (vars .entry)) (now (types .entry)) (rowIn (now (m .entry)) (errorsUsed a))) 0 (now (out .entry)) r (now (out .exit)) ⌝ }
 {
     match a {
         Answer::Checked(n) => put_checked(out, n, nodes, vars, types, m),
@@ -420,8 +419,8 @@ pub fn write_report(
 {
     let c = put_report(out, a, nodes, vars, types, m);
     match output::finish(out, c) {
-        Cursor::At(n) => Reported::Written(a, n),
-        Cursor::Full => Reported::NoRoom(a),
+        Ending::At(n) => Reported::Written(a, n),
+        Ending::Full => Reported::NoRoom(a),
     }
 }
 

@@ -1,5 +1,6 @@
+use native.Mathlib.Omega.{arith}
 use borrow.Author.Needs.{needs}
-use Rattle.output.proofs.OutputLaws.{put-at, put-past, put-full}
+use Rattle.output.proofs.OutputLaws.{put-at, put-past}
 use Rattle.output.proofs.put.Statement.{statement}
 use Rattle.output.proofs.put.Tie as tie
 
@@ -9,8 +10,5 @@ put-spec =
     (λ c. search needs)
     (λ c. search needs)
     (λ c. search needs)
-    (λ c. search needs)
-    (λ c. put-at _ _ _ (c .before .before .c .given .1) (c .if1 .taken))
-    (λ c. search needs)
-    (λ c. put-past _ _ _ (c .before .before .c .given .1) (c .if1 .left))
-    (λ c. put-full _ _ (c .enum-told .given .1)))
+    (λ c. put-at _ _ _ (c .if1 .taken) (omega (arith, c .before .good .0 .1)))
+    (λ c. put-past _ _ _ (c .if1 .left)))

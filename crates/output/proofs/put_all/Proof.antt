@@ -9,10 +9,10 @@ use Rattle.output.proofs.put_all.Statement.{statement}
 use Rattle.output.proofs.put_all.Tie as tie
 
 abbrev Inv-loop : tie.InvT-loop
-Inv-loop out₀ s d₀ i₀ out d i = Appends (take i s) d₀ out₀ d out × (i ≤ length s) × (length out ≡ length out₀)
+Inv-loop out₀ c s d₀ i₀ out d i = Appends (take i s) d₀ out₀ d out × (i ≤ length s) × (length out ≡ length out₀)
 
 abbrev μ-loop : tie.MeasureT-loop
-μ-loop out₀ s d₀ i₀ out d i = length s - i
+μ-loop out₀ c s d₀ i₀ out d i = length s - i
 
 pub put-all-spec : {M : Type 1} → statement M
 put-all-spec =

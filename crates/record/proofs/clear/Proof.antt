@@ -1,6 +1,7 @@
 use Rattle.record.specs.Operations.{cleared}
 use Rattle.record.specs.Own.{nodes-at, errors-at}
-use lib.ListN.{length}
+use native.Mathlib.Omega.{arith}
+use lib.ListN.{length, length-set}
 use Prim.Native.Nat.{_≤_, _-_}
 use mathlib.Core.Path.{_≡_, refl, _∙_}
 use borrow.Author.Needs.{needs}
@@ -20,10 +21,12 @@ clear-spec =
     tie.close (tie.spec
     Inv-loop
     μ-loop
+    (λ c. λ h. absurd (omega (arith, h, c .if1 .taken)))
     (λ c. (refl, search needs, search needs, refl))
-    (λ c κs. search needs)
     (λ c. search needs)
     (λ c. search needs)
-    (λ c. (cleared-more _ _ _ _ (c .before .before .before .before .before .loop .inv .1) (c .before .before .before .before .before .loop .inv .0) (c .before .before .write .ensures), search needs, search needs, (c .before .before .write .kept .0) ∙ (c .before .before .before .before .before .loop .inv .3)))
+    (λ c. search needs)
+    (λ c. search needs)
+    (λ c. let a = c .before in (cleared-more _ _ _ _ (a .loop .inv .1) (a .loop .inv .0) refl, search needs, search needs, simp length-set (a .loop .inv .3)))
     (λ c. (c .before .loop .inv .3))
-    (λ c. cleared-all _ _ _ (c .before .loop .inv .0) (c .before .loop .inv .2) (c .loop-test .left)))
+    (λ c. λ h. cleared-all _ _ _ (c .before .loop .inv .0) (c .before .loop .inv .2) (c .loop-test .left)))

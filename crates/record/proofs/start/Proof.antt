@@ -1,4 +1,5 @@
 use Rattle.record.specs.Writes.{started}
+use native.Mathlib.Omega.{arith}
 use borrow.Author.Needs.{needs}
 use Rattle.record.proofs.start.Statement.{statement}
 use Rattle.record.proofs.start.Tie as tie
@@ -9,4 +10,4 @@ start-spec =
     (λ c κs. search needs)
     (λ c κs. search needs)
     (λ c. search needs)
-    (λ c. started _ _ _ _ _ (c .before .before .before .before .before .before .start .ensures) (c .before .before .before .before .before .before .start .kept .0) (c .before .before .clear .ensures)))
+    (λ c. λ large. let a = c .before .before .before .before .before .before .start in started _ _ _ _ _ (a .ensures) (a .kept .0) (c .before .before .clear .ensures (omega (arith, large, a .kept .0))) large))

@@ -9,10 +9,10 @@ use Rattle.report_text.proofs.put_each.Statement.{statement}
 use Rattle.report_text.proofs.put_each.Tie as tie
 
 abbrev Inv-loop : tie.InvT-loop
-Inv-loop out₀ t d₀ i₀ out d i = Appends (eachText (take i t)) d₀ out₀ d out × (i ≤ length t) × (length out ≡ length out₀)
+Inv-loop out₀ c t d₀ i₀ out d i = Appends (eachText (take i t)) d₀ out₀ d out × (i ≤ length t) × (length out ≡ length out₀)
 
 abbrev μ-loop : tie.MeasureT-loop
-μ-loop out₀ t d₀ i₀ out d i = length t - i
+μ-loop out₀ c t d₀ i₀ out d i = length t - i
 
 pub put-each-spec : {M : Type 1} → statement M
 put-each-spec =

@@ -12,10 +12,10 @@ use Rattle.report_text.proofs.put_errors.Statement.{statement}
 use Rattle.report_text.proofs.put_errors.Tie as tie
 
 abbrev Inv-loop : tie.InvT-loop
-Inv-loop out₀ m n d₀ i₀ out d i = Appends (cellsTo (λ j. errorLine (rowIn m n j)) i) d₀ out₀ d out × (i ≤ n) × (length out ≡ length out₀)
+Inv-loop out₀ c m n d₀ i₀ out d i = Appends (cellsTo (λ j. errorLine (rowIn m n j)) i) d₀ out₀ d out × (i ≤ n) × (length out ≡ length out₀)
 
 abbrev μ-loop : tie.MeasureT-loop
-μ-loop out₀ m n d₀ i₀ out d i = n - i
+μ-loop out₀ c m n d₀ i₀ out d i = n - i
 
 pub put-errors-spec : {M : Type 1} → statement M
 unfolding errorLines

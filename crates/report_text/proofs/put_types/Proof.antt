@@ -11,10 +11,10 @@ use Rattle.report_text.proofs.put_types.Statement.{statement}
 use Rattle.report_text.proofs.put_types.Tie as tie
 
 abbrev Inv-loop : tie.InvT-loop
-Inv-loop out₀ t n d₀ i₀ out d i = Appends (cellsTo (typeLine t) i) d₀ out₀ d out × (i ≤ n) × (length out ≡ length out₀)
+Inv-loop out₀ c t n d₀ i₀ out d i = Appends (cellsTo (typeLine t) i) d₀ out₀ d out × (i ≤ n) × (length out ≡ length out₀)
 
 abbrev μ-loop : tie.MeasureT-loop
-μ-loop out₀ t n d₀ i₀ out d i = n - i
+μ-loop out₀ c t n d₀ i₀ out d i = n - i
 
 pub put-types-spec : {M : Type 1} → statement M
 unfolding typeLines

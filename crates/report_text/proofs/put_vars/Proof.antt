@@ -11,10 +11,10 @@ use Rattle.report_text.proofs.put_vars.Statement.{statement}
 use Rattle.report_text.proofs.put_vars.Tie as tie
 
 abbrev Inv-loop : tie.InvT-loop
-Inv-loop out₀ t n d₀ v₀ out d v = Appends (cellsTo (varLine t) v) d₀ out₀ d out × (v ≤ n) × (length out ≡ length out₀)
+Inv-loop out₀ c t n d₀ v₀ out d v = Appends (cellsTo (varLine t) v) d₀ out₀ d out × (v ≤ n) × (length out ≡ length out₀)
 
 abbrev μ-loop : tie.MeasureT-loop
-μ-loop out₀ t n d₀ v₀ out d v = n - v
+μ-loop out₀ c t n d₀ v₀ out d v = n - v
 
 pub put-vars-spec : {M : Type 1} → statement M
 unfolding varLines
