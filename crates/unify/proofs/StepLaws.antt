@@ -1,9 +1,9 @@
 -- One step: what each return of settle, chase, heed, meet, variable and step shows.
-use mathlib.Core.Path.{_≡_, refl, sym, ap, _∙_}
+use mathlib.Core.Path.{_≡_, refl, sym, ap, subst, _∙_}
 use mathlib.Core.Logic.{_≢_, _⊎_, inl, inr}
 use mathlib.Core.List.{List, [], _∷_}
 use mathlib.Core.Option.{none, some}
-use mathlib.Core.Bool.{Bool, true, false, _&&_, _||_, cond}
+use mathlib.Core.Bool.{Bool, true, false, not, _&&_, _||_, cond, true≢false, false≢true}
 use Prim.Native.Nat.{ℕ}
 use native.Mathlib.Omega.{arith}
 use lib.Dec.{eqb}
@@ -14,7 +14,9 @@ use Rattle.type_table.specs.declared.VarId.{VarId}
 use Rattle.type_table.specs.declared.Kind.{Kind}
 use Rattle.type_table.specs.declared.Bound.{Bound}
 use Rattle.type_table.specs.declared.Bound.the-variants.{To as To·B, Open}
-use Rattle.type_table.specs.Memory.{headAt, numberAt, markAt, bindsOf, marksOf, memOf, Held}
+use Rattle.type_table.specs.Memory.{pick, headAt, numberAt, markAt, bindsOf, marksOf, memOf, Held}
+use borrow.Author.Tests.{ne-eqb}
+use borrow.Author.Tests.{eqb-true as test-true, eqb-false as test-false}
 use Rattle.type_table.specs.Made.{marking, binding}
 use Rattle.type_table.specs.View.{type, variable, kindIn, boundIn}
 use Rattle.unify.specs.declared.Decision.{Decision}
@@ -27,7 +29,7 @@ use Rattle.unify.specs.declared.Found.{Found}
 use Rattle.unify.specs.declared.Found.the-variants.{Free, Ring, Inside, Lost}
 use Rattle.unify.specs.Leaf.{kindK, stepK, Classed, Caused, Signed, SameVar, Compared}
 use Rattle.unify.specs.Search.{seekIn, Sought, parts}
-use Rattle.unify.specs.Step.{Rec, resume, Parted, Enterable, Settled, Chased, Heeded, Met, Varied, downTo, Stepped}
+use Rattle.unify.specs.Step.{Rec, resume, Parted, Enterable, Settled, Chased, Heeded, unsignedIn, passedIn, Met, Varied, downTo, Stepped}
 use Rattle.type_table.specs.Tables.{mark-at}
 use Rattle.theory.specs.Basics.{and-both, eqb-true}
 use Rattle.type_table.specs.Heads.{head-row, var-row}
@@ -94,15 +96,15 @@ module _ (m : List ℕ) (c : Counts) (v : VarId) (z : TypeId) where
     not-signed : s ≡ false → Heeded m c v z m (Done Refused13)
     not-signed e held k = record { frame = frame-same m c; left-over = λ rec. rw (← ps, e); enterable = tt }
 
-    pub heed-refused : s ≡ false → Heeded m c v z m (Done Refused13)
+    heed-refused : s ≡ false → Heeded m c v z m (Done Refused13)
     heed-refused e = not-signed e
 
-    pub heed-other : (h : ℕ) (w : List ℕ) (r : Next) → s ≡ true → h ≡ headAt m (c .types) (z .0) → h ≢ 12 → Chased m c v z w r → Heeded m c v z w r
+    heed-other : (h : ℕ) (w : List ℕ) (r : Next) → s ≡ true → h ≡ headAt m (c .types) (z .0) → h ≢ 12 → Chased m c v z w r → Heeded m c v z w r
     heed-other h w r e p d a held k =
         let g = a held in
         record { frame = g .frame; left-over = λ rec. rw (← ps, e, pass-other (no-var-row m (c .types) (z .0) (rw p at d))) (g .left-over rec); enterable = g .enterable }
 
-    pub heed-var : (h u : ℕ) (m₁ w : List ℕ) (r : Next) → s ≡ true → h ≡ headAt m (c .types) (z .0) → h ≡ 12 → u ≡ numberAt m (c .types) (z .0) → m₁ ≡ marking m (c .vars) u → Chased m₁ c v z w r → Heeded m c v z w r
+    heed-var : (h u : ℕ) (m₁ w : List ℕ) (r : Next) → s ≡ true → h ≡ headAt m (c .types) (z .0) → h ≡ 12 → u ≡ numberAt m (c .types) (z .0) → m₁ ≡ marking m (c .vars) u → Chased m₁ c v z w r → Heeded m c v z w r
     unfolding pass
     heed-var h u m₁ w r e p d q f a held k =
         let as-u : asVar (rowIn m c z) ≡ some u = ap asVar (var-row m (c .types) (z .0) (sym p ∙ d)) ∙ ap some (sym q) in
@@ -133,15 +135,70 @@ module _ (m : List ℕ) (c : Counts) (v : VarId) (z : TypeId) where
     meet-same e held = record { frame = frame-same m c; left-over = λ rec. rw (← ps, e); enterable = tt }
 
     module _ (ns : s ≡ false) (k : Bool) (pk : k ≡ markAt m (c .vars) (v .0)) where
-      pub meet-marked : (w : List ℕ) (r : Next) → k ≡ true → Heeded m c v z w r → Met m c v z w r
+      meet-marked : (w : List ℕ) (r : Next) → k ≡ true → Heeded m c v z w r → Met m c v z w r
       meet-marked w r e a held =
           let g = a held (sym pk ∙ e) in
           record { frame = g .frame; left-over = λ rec. rw (← ps, ns, ← marked-is, ← pk, e) (g .left-over rec); enterable = g .enterable }
 
-      pub meet-unmarked : (w : List ℕ) (r : Next) → k ≡ false → Chased m c v z w r → Met m c v z w r
+      meet-unmarked : (w : List ℕ) (r : Next) → k ≡ false → Chased m c v z w r → Met m c v z w r
       meet-unmarked w r e a held =
           let g = a held in
           record { frame = g .frame; left-over = λ rec. rw (← ps, ns, ← marked-is, ← pk, e, pass-none (sym pk ∙ e)) (g .left-over rec); enterable = g .enterable }
+
+  -- no mark keeps it from meeting a signed row,
+  pub unsigned-signed : (k s : Bool) → k ≡ markAt m (c .vars) (v .0) → k ≡ true → Signed m c z s → s ≡ true → false ≡ unsignedIn m c v z
+  unfolding unsignedIn
+  unsigned-signed k s p e q f = rw (← p, e, ← q, f)
+
+  -- but from another,
+  pub unsigned-marked : (k s : Bool) → k ≡ markAt m (c .vars) (v .0) → k ≡ true → Signed m c z s → s ≡ false → true ≡ unsignedIn m c v z
+  unfolding unsignedIn
+  unsigned-marked k s p e q f = rw (← p, e, ← q, f)
+
+  -- where there is a mark
+  pub unsigned-unmarked : (k : Bool) → k ≡ markAt m (c .vars) (v .0) → k ≡ false → false ≡ unsignedIn m c v z
+  unfolding unsignedIn
+  unsigned-unmarked k p e = rw (← p, e)
+
+  -- a mark is passed on
+  pub passed-on : (k : Bool) (h u : ℕ) (w : List ℕ) → k ≡ markAt m (c .vars) (v .0) → k ≡ true → h ≡ headAt m (c .types) (z .0) → h ≡ 12 → u ≡ numberAt m (c .types) (z .0) → w ≡ marking m (c .vars) u → w ≡ passedIn m c v z
+  unfolding passedIn
+  passed-on k h u w p e q d f g = rw (← p, e, ← q, d, ← f, g)
+
+  -- or not: to what is no variable
+  pub passed-other : (k : Bool) (h : ℕ) → k ≡ markAt m (c .vars) (v .0) → k ≡ true → h ≡ headAt m (c .types) (z .0) → h ≢ 12 → m ≡ passedIn m c v z
+  unfolding passedIn
+  passed-other k h p e q d = rw (← p, e, ← q, ne-eqb h 12 d)
+
+  -- or there is none
+  pub passed-none : (k : Bool) → k ≡ markAt m (c .vars) (v .0) → k ≡ false → m ≡ passedIn m c v z
+  unfolding passedIn
+  passed-none k p e = rw (← p, e)
+
+  module _ (s : Bool) (ps : SameVar m c v z s) (ns : s ≡ false) where
+    -- a mark keeps it from meeting the row: 13
+    pub meet-unsigned : (b : Bool) → b ≡ unsignedIn m c v z → b ≡ true → Met m c v z m (Done Refused13)
+    unfolding unsignedIn
+    meet-unsigned b p e = by (markAt m (c .vars) (v .0)) refl _ refl (sym p ∙ e)
+      where
+        by : (k : Bool) → k ≡ markAt m (c .vars) (v .0) → (g : Bool) → Signed m c z g → k && not g ≡ true → Met m c v z m (Done Refused13)
+        by true q false f h = meet-marked s ps ns true q m (Done Refused13) refl (heed-refused false f refl)
+        by true q true f h = absurd (false≢true h)
+        by false q g f h = absurd (false≢true h)
+
+    -- its mark, if it has one, is passed on
+    pub meet-on : (b : Bool) (m₁ w : List ℕ) (r : Next) → b ≡ unsignedIn m c v z → b ≡ false → m₁ ≡ passedIn m c v z → Chased m₁ c v z w r → Met m c v z w r
+    unfolding unsignedIn passedIn
+    meet-on b m₁ w r p e f a = by (markAt m (c .vars) (v .0)) refl _ refl (eqb (headAt m (c .types) (z .0)) 12) refl (sym p ∙ e) f
+      where
+        by : (k : Bool) → k ≡ markAt m (c .vars) (v .0) → (g : Bool) → Signed m c z g → (t : Bool) → t ≡ eqb (headAt m (c .types) (z .0)) 12 → k && not g ≡ false
+            → m₁ ≡ pick k (pick t (marking m (c .vars) (numberAt m (c .types) (z .0))) m) m → Met m c v z w r
+        by true q false i t j h n = absurd (true≢false h)
+        by true q true i true j h n =
+            meet-marked s ps ns true q w r refl (heed-var true i (headAt m (c .types) (z .0)) (numberAt m (c .types) (z .0)) m₁ w r refl refl (test-true _ 12 (sym j)) refl n a)
+        by true q true i false j h n =
+            meet-marked s ps ns true q w r refl (heed-other true i (headAt m (c .types) (z .0)) w r refl refl (test-false _ 12 (sym j)) (subst (λ (x : List ℕ). Chased x c v z w r) n a))
+        by false q g i t j h n = meet-unmarked s ps ns false q w r refl (subst (λ (x : List ℕ). Chased x c v z w r) n a)
 
 -- ── step 3 ──
 

@@ -1,7 +1,7 @@
 -- One step of unification in the memory: what is left to do, and what stays as it was.
 use mathlib.Core.Path.{_≡_}
 use mathlib.Core.List.{List, _∷_}
-use mathlib.Core.Bool.{true, not, _&&_}
+use mathlib.Core.Bool.{Bool, true, not, _&&_}
 use Prim.Native.Nat.{ℕ}
 use lib.Dec.{eqb}
 use Rattle.theory.specs.Rules.{Shape, Mem, Res, row, asVar, kids, bound, isSame, signed, split, atVar, perform, move, other, heed, chase, settle}
@@ -10,6 +10,7 @@ use Rattle.type_table.specs.declared.Counts.{Counts}
 use Rattle.type_table.specs.declared.TypeId.{TypeId}
 use Rattle.type_table.specs.declared.VarId.{VarId}
 use Rattle.type_table.specs.Memory.{pick, headAt, numberAt, outputAt, firstAt, countAt, inputsFrom, markAt, Held}
+use Rattle.type_table.specs.Made.{marking}
 use Rattle.type_table.specs.View.{type}
 use Rattle.unify.specs.declared.Reply.{Reply}
 use Rattle.unify.specs.declared.Next.{Next}
@@ -52,9 +53,17 @@ Settled m c v z w a = Held m c → Frame m c w × (settle (memIn m c) (v .0) (z 
 abbrev pub Chased : List ℕ → Counts → VarId → TypeId → List ℕ → Next → Type 0
 Chased m c v z w r = Held m c → Went m c w r (λ rec. chase (rowsIn m c) (kindsIn m c) rec (memIn m c) (v .0) (z .0) (bound (memIn m c .binds) (v .0)))
 
--- what `heed` does: a marked variable against another row
+-- a marked variable against a row: what the rules do, the tests before passed
 abbrev pub Heeded : List ℕ → Counts → VarId → TypeId → List ℕ → Next → Type 0
 Heeded m c v z w r = Held m c → markAt m (c .vars) (v .0) ≡ true → Went m c w r (λ rec. heed (rowsIn m c) (kindsIn m c) rec (memIn m c) (v .0) (z .0) (not (signed (rowIn m c z))))
+
+-- a marked variable may not meet the row
+unfoldable pub unsignedIn : List ℕ → Counts → VarId → TypeId → Bool
+unsignedIn m c v z = markAt m (c .vars) (v .0) && not (signed (rowIn m c z))
+
+-- the memory once a marked variable has passed its mark on, if the row is that of a variable
+unfoldable pub passedIn : List ℕ → Counts → VarId → TypeId → List ℕ
+passedIn m c v z = pick (markAt m (c .vars) (v .0)) (pick (eqb (headAt m (c .types) (z .0)) 12) (marking m (c .vars) (numberAt m (c .types) (z .0))) m) m
 
 -- what `meet` does: a variable against a row of its kind
 abbrev pub Met : List ℕ → Counts → VarId → TypeId → List ℕ → Next → Type 0

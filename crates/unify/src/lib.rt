@@ -9,7 +9,7 @@ ghost use Rattle.theory.specs.Rules.{compared as compared·T, choose as choose�
 ghost use Rattle.type_table.specs.Memory.{inputsFrom};
 ghost use Rattle.unify.specs.Leaf.{kindK, stepK, cap, code, Classed, Caused, Signed, Compared, SameVar};
 ghost use Rattle.unify.specs.Search.{queue, pushF, pushAll, parts, Visited, Reached, Stands, LedVar, Led, Sought};
-ghost use Rattle.unify.specs.Step.{Settled, Chased, Heeded, Met, Varied, downTo, Stepped};
+ghost use Rattle.unify.specs.Step.{Settled, Chased, unsignedIn, passedIn, Met, Varied, downTo, Stepped};
 ghost use Rattle.unify.specs.Unify.{isSuccess, Eached, Entered, Unified, answerOf};
 ghost use Rattle.unify.specs.Promise.{heldIn, Solved};
 use type_table::Bound;
@@ -508,20 +508,30 @@ fn chase(m: &mut [u16], c: Counts, v: VarId, z: TypeId) -> Next
     }
 }
 
-// A marked variable against another row: the mark is passed on to a variable, and else asks for Int.
-fn heed(m: &mut [u16], c: Counts, v: VarId, z: TypeId) -> Next
-    ensures { λ r. ⌜ Heeded (now (m .entry)) c v z (now (m .exit)) r ⌝ }
+// Whether a mark keeps a variable from meeting a row: it asks for Int, or a variable.
+fn unsigned(m: &[u16], c: Counts, v: VarId, z: TypeId) -> bool
+    ensures { λ r. ⌜ r ≡ unsignedIn (now (m .entry)) c v z ⌝ }
 {
-    if signed(m, c, z) {
+    if type_table::is_marked(m, c, v) {
+        if signed(m, c, z) {
+            return false;
+        }
+        return true;
+    }
+    false
+}
+
+// The mark of a variable is passed on to another.
+fn pass(m: &mut [u16], c: Counts, v: VarId, z: TypeId)
+    ensures { λ _. ⌜ now (m .exit) ≡ passedIn (now (m .entry)) c v z ⌝ }
+{
+    if type_table::is_marked(m, c, v) {
         let h = type_table::head(m, c, z);
         if h == HEAD_INFER_TY {
             let u = type_table::number(m, c, z);
             type_table::mark(m, c, VarId(u));
-            return chase(m, c, v, z);
         }
-        return chase(m, c, v, z);
     }
-    Next::Done(Reply::Refused13)
 }
 
 // A variable against a row of its kind.
@@ -531,9 +541,10 @@ fn meet(m: &mut [u16], c: Counts, v: VarId, z: TypeId) -> Next
     if same_var(m, c, v, z) {
         return Next::Done(Reply::Success);
     }
-    if type_table::is_marked(m, c, v) {
-        return heed(m, c, v, z);
+    if unsigned(m, c, v, z) {
+        return Next::Done(Reply::Refused13);
     }
+    pass(m, c, v, z);
     chase(m, c, v, z)
 }
 
