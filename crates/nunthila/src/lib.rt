@@ -102,7 +102,7 @@ fn put_all(t: &mut [usize], xs: [usize; TOLD])
     ensures { λ _. ⌜ now (t .exit) ≡ sets (now (t .entry)) 0 xs ⌝ }
 {
     let mut i = 0;
-    while i < 14 {
+    while i < TOLD {
         put(t, i, xs[i]);
         i += 1;
     }
