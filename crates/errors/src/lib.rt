@@ -8,6 +8,7 @@ ghost use Rattle.errors.specs.Rows.{zeroRow, rowIn, filledTo};
 
 // An error as it is handed back: KIND, CAUSE, P by its tag (0 a node, 1 a bind item, 2 the signature) and its number, 1 if there is a Q, Q, and
 // three values; those that its kind does not have are 0.
+#[repr(C)]
 pub struct ErrorRow {
     pub kind: u16,
     pub cause: u16,

@@ -1,0 +1,267 @@
+# Prints, by its argument, the proof of an exported function: `check`, that of nunthila::nunthila_check; `report`, that of nunthila::nunthila_report.
+import sys
+from functools import partial
+import names
+from names import LAW, key, uses, tidy
+from walk import *
+callee = sys.argv[1]
+REP = callee == 'report'
+CR, fn = 'nunthila', 'nunthila_' + callee
+teller = 'tell_report' if REP else 'tell'
+mod, ty, den, spec, cites, self = (partial(f, CR) for f in (names.mod, names.ty, names.den, names.spec, names.cites, names.self))
+# the parameters: name and element; all but the last are those of the callee, in order
+P = [('s', 'u8'), ('rows', 'u16'), ('cells', 'u16'), ('nodes', 'u16'), ('vars', 'u16'), ('types', 'u16'), ('errors', 'E.the-row'), ('log', 'u16'), ('memory', 'u16')] + ([('out', 'u8')] if REP else []) + [('told', 'usize')]
+NP = [p[0] for p in P]
+n = len(P)
+idx = {p[0]: i for i, p in enumerate(P)}
+el = dict(P)
+GONE = NP[:-1]                                      # given up to the callee
+SAID = GONE[1:]                                     # with a last list
+VAR = {t: t for t in NP}; VAR['s'] = 'src'
+K = lambda t: f'κ{idx[t]}'
+Q = lambda t: f'q{idx[t]}'
+tok = lambda t: f'‵ (flft {K(t)} {Q(t)})'
+own = lambda t: f'‵ ({"ShrSlice" if t == "s" else "MutSlice"} (named {idx[t]}) {K(t)} {el[t]} .own {VAR[t]} (at {VAR[t]} ∷ []))'
+Z = lambda t: 'zs' + proj(idx[t])
+fin = lambda t: f'‵ (finally {el[t]} ({VAR[t]} .name) ({Z(t)}))'
+FT = '‵ (finally usize (told .name) vs)'
+lists = lambda t: 'List ErrorRow' if t == 'errors' else 'List ℕ'
+LASTS = prod(['Unit {0}' if t == 's' else lists(t) for t in GONE], 'Unit {0}')
+RES, RN = ('Reported', 'B') if REP else ('Answer', 'N')
+TABLES = NP[1:9]
+ENTRY = '(lent ' + ' '.join(f'({t} .now)' for t in TABLES) + ')'
+EXIT = '(lent ' + ' '.join(f'({Z(t)})' for t in TABLES) + ')'
+# what the callee promises, and what the teller promises
+CORE = f'reported r {EXIT} ({Z("out")}) ≡ reportOf (src .now) {ENTRY} (out .now)' if REP else f'held r {EXIT} ≡ checkOf (src .now) {ENTRY}'
+TOLD = lambda k, vs: f'numberTold {k} {vs} ≡ numberTold ' + ('(reportNumber r) (sets (told .now) 0 (toldNumbers (checkedAnswer r) (textLength r)))' if REP else '(answerNumber r) (sets (told .now) 0 (toldNumbers r 0))')
+
+# apart
+REST = [tok('told'), own('told')]
+ENTRY_T = [tok(t) for t in NP] + [TRUES]; ENTRY_O = [own(t) for t in NP] + [TRUES]
+ASK_T = [tok(t) for t in GONE] + [TRUES]; ASK_O = [own(t) for t in GONE] + [TRUES]
+PI_APART = rel(tokens(NP) + ['true'] + owners(NP) + ['true′'], tokens(GONE) + ['true'] + owners(GONE) + ['true′', 't-told', 'o-told'])
+# callee-said: the last lists are taken apart, and each length is learned
+FACTS = prod([f'Is {RN}.the-row r (w ∷ [])'] + [f'(length ({Z(t)}) ≡ length ({VAR[t]} .now))' for t in SAID] + [f'({CORE})'])
+opn = 3
+c2, txt = split_all(['lasts', 'back'], 'lasts', ['l-' + t for t in GONE] + ['true'], 'fsplit')
+for t in SAID:
+    i = c2.index('l-' + t)
+    txt += (f'move ! ({i} ∷ []) $ ' if i else '') + f'fsplit ! $ move ! (1 ∷ []) $ feqL ! (λ len-{t}. '; opn += 1
+    c2 = ['f-' + t] + [x for x in c2 if x != 'l-' + t]
+txt += f'\n      move ! ({c2.index("back")} ∷ []) $ split ! $ '
+c2 = ['toks', 'res'] + [x for x in c2 if x != 'back']
+txt += f'move ! (1 ∷ []) $ facts ! {RN}.the-row (Is {RN}.the-row) (shows 𝓤 H A {RN}.the-row) r (w ∷ []) (λ is. '; opn += 1
+c2 = [x for x in c2 if x != 'res']
+c2, t2 = split_all(c2, 'toks', tokens(GONE) + ['true″'], 'split')
+txt += t2 + f'\n      at-once ! $ show ! (λ (r′ : {RES}). mean 𝓤 H A (some (Said w r′))) r $ show ! (λ (zs′ : Lasts). mean 𝓤 H A (Said w r zs′)) zs $ checks ! (is, ' + ''.join(f'(len-{t}, ' for t in SAID) + 'e' + ')' * (1 + len(SAID)) + ' $\n      '
+txt += f'keep ! {lst([c2.index(x) for x in tokens(GONE) + finals(SAID)])} $ by ! (id⊢ 𝓤 (⋆ 𝓤 H A (left zs)))' + ')' * opn
+# exits
+RESI = '‵ (usize .own k (u ∷ []))'
+EXIT_T = [tok(t) for t in NP] + [TRUES]
+EXIT_F = [TRUES] + [fin(t) for t in SAID] + [FT, TRUES]
+PI_EXIT = rel(tokens(GONE) + finals(SAID) + ['t-told', 'f-told', 'res', 'true', 'f-s', 'true′'], tokens(NP) + ['true'] + finals(NP) + ['true′', 'res'])
+
+# the walk
+w = Walk(['entry'])
+loc = {'r': n + 1, 'v-s': 1}; nxt = n + 2
+for t in NP[1:]: loc['p-' + t] = nxt; loc['v-' + t] = nxt + 1; nxt += 2
+ARGV = '(' + ''.join(f'at {VAR[t]} ∷ ' for t in NP) + '[])'
+w.enter(nxt, 'code.function', ARGV)
+w.passes([f'(tt, (tt, (record {{ fits = room-{t} .0 }}, tt)))' for t in NP])
+for t in SAID: w.slice(loc['p-' + t], loc['v-' + t], idx[t] + 1, f'room-{t} .0')
+w.note(f'`{callee}`: every slice but `told` is given up to it')
+w.use(['entry'], f'(raw (CalleeC 𝓤 H A mem run .pre to-callee) ⊛ {star(REST)})', 'apart', 'parts')
+w.splits('pre', 'κt', 'told'); w.move('pre')
+w.call('CalleeC 𝓤 H A mem run', 'known-callee', 'to-callee', [loc['v-' + t] for t in GONE], 'w')
+w.put(f'use1 W (later (some (λ (r : {RES}). some (Said w r)))) (callee-said w) $ await ! tt $ '); w.lam('pick !', 'r'); w.lam('pick !', 'zs'); w.lam('learn !', 'f')
+w.head(1, 'left'); w.nl()
+w.land(loc['r'], f'(EL.lawful {RN}.the-type {RN}′.the-laws 𝓤 H A W tt .typed r _ (f .0) .0)')
+w.note(f'`{teller}`: `told` is given up to it')
+w.slice(loc['p-told'], loc['v-told'], idx['told'] + 1, 'room-told .0')
+w.use(['κt', 'told'], '(raw (TellC 𝓤 H A mem run .pre (to-tell r w)))', '(goes-tell r w (f .0))', 'pre')
+w.lam(f'calls-at ! fm (TellC 𝓤 H A mem run) known-tell (to-tell r w) {w.opds(*([w.look(loc["v-told"]), w.look(loc["r"])] + ([] if REP else ["(lit ! tt)"])))}', 'u'); w.nl()
+w.put('use1 W (later (some (λ (k : ℕ). some (Told r u k)))) (tell-said r w u) $ await ! tt $ '); w.lam('pick !', 'k'); w.lam('pick !', 'vs'); w.lam('learn !', 'g')
+w.head(1, 'given'); w.splits('κt', 'ft')
+w.land(0, '(uint-lawful 𝓤 H A W w64 .typed k _ (g .0) .0)')
+w.leave(['left', 'κt', 'ft'], 'exits w r zs u k vs f g')
+WALK = w.text()
+
+LFTS = tup([K(t) for t in NP]); SHRS = tup([Q(t) for t in NP])
+TL = tup([K(t) for t in GONE]); TQ = tup([Q(t) for t in GONE])
+TARGS = tup([VAR[t] for t in GONE]); TVALS = tup([f'at {VAR[t]} ∷ []' for t in GONE])
+TELLARGS = tup(['told', 'r'] + ([] if REP else ['0'])); TELLVALS = tup(['at told ∷ []', 'w ∷ []'] + ([] if REP else ['vint w64 0 ∷ []']))
+TELLLASTS = prod(['List ℕ', 'Unit {0}'] + ([] if REP else ['Unit {0}']), 'Unit {0}')
+ARGTY = prod([f'RefT ({lists(t)})' for t in NP], 'Unit {0}')
+VALTY = prod(['List Val'] * n, 'Unit {0}')
+SRC = '(shrSliceOf (0 ∷ []) tt (plain (λ _. u8))) yes'
+STAYED = tup([f'stay-dropped {SRC}'] + [f'gave-slice ({i} ∷ []) tt (plain (λ _. {P[i][1]}))' for i in range(1, n)])
+GOS = tup([f'goes-dropped 𝓤 H A W {n} {SRC} (λ κs x f. refl)'] + [f'goes-gave-slice 𝓤 H A W {n} {i} tt (plain (λ _. {P[i][1]}))' for i in range(1, n)])
+ENDS = tup(['tt'] + [Z(t) for t in SAID] + ['vs'])
+FITS = tup(['tt'] + [f'f{proj(i + 1)}' for i in range(len(SAID))] + ['g .1 .0'])
+LAWARGS = f'(src .now) {ENTRY} {EXIT} ' + (f'(out .now) ({Z("out")}) ' if REP else '') + f'(told .now) vs r k (f{" .1" * (1 + len(SAID))}) (g .1 .1)'
+MAKES = iso(f'{RN}.the-row', f'EL.makes {RN}.the-type {RN}′.the-plain 𝓤 H A', 'r', 'is')
+ZERO = iso('usize', 'uint-makes 𝓤 H A W w64', '0', '(refl, lit< tt)')
+g_tell = goal_emp(['κ', 'sl'], [('*', ('*', 'κ', TRUE), ('f', 'sl', ('f', ('new', MAKES), TRUE if REP else ('f', ('new', ZERO), TRUE))))])
+CALLEES = [(callee, 'callee', 'CalleeC'), (teller, 'tell', 'TellC')]
+KNOWN = ' '.join(f'(known-{a} : Triple 𝓤 (C #{key(f)}) ({c} 𝓤 H A mem run))' for f, a, c in CALLEES)
+KARR = lambda C: ' → '.join(f'Triple 𝓤 ({C} #{key(f)}) ({c} 𝓤 H A mem run)' for f, a, c in CALLEES)
+KN = ' '.join(f'known-{a}' for f, a, c in CALLEES)
+CT = lambda f, a, c: f'(cited 𝓤 H ({c} 𝓤 H (𝓖 .A) (𝓜 .mem) (𝓡 .run)) 𝓜 𝓡 code.env #{key(f)} {a}-def.routine code.calls-{key(f)} ({a}-thm.met 𝓤 H 𝓜 𝓖 𝓡))'
+EX = 'exported'
+name = fn.replace('_', '-')
+body = f'''
+-- what is had of the parameters at exit: each `&mut` is given up for good, and `s` too
+abbrev stayed : Stays ({EX}.ended .signature .params) ({EX}.ended .kept)
+stayed = {STAYED}
+
+-- the last lists of `{callee}`'s parameters
+abbrev Lasts : Type 0
+Lasts = {LASTS}
+
+module _ {{M : Type 1}} (𝓤 : URA M) (H : Heap 𝓤) (A : Atoms 𝓤) (mem : Memory → SProp 𝓤) (run : Routine → Fun 𝓤) where
+  -- the contract of `{callee}`
+  abbrev CalleeC : Contract 𝓤
+  CalleeC = tripleOf 𝓤 H A callee.signature (callee.spec 𝓤 H A mem run)
+
+  -- the contract of `{teller}`
+  abbrev TellC : Contract 𝓤
+  TellC = tripleOf 𝓤 H A tell.signature (tell.spec 𝓤 H A mem run)
+
+module _ {{M : Type 1}} (𝓤 : URA M) (H : Heap 𝓤) (A : Atoms 𝓤) (W : Given 𝓤 H A) (mem : Memory → SProp 𝓤) (run : Routine → Fun 𝓤) ({" ".join(K(t) for t in NP)} : Lft) ({" ".join(Q(t) for t in NP)} : Share)
+    ({" ".join(VAR[t] for t in NP if t != "errors")} : RefT (List ℕ)) (errors : RefT (List ErrorRow))
+    {' '.join(f'(room-{t} : Room {el[t]} (length ({VAR[t]} .now)))' for t in NP)} where
+  -- the arguments' type
+  abbrev Arg : Type 0
+  Arg = {ARGTY}
+
+  -- the arguments
+  abbrev a : Arg
+  a = {tup([VAR[t] for t in NP])}
+
+  -- their machine values
+  abbrev vals : {VALTY}
+  vals = {tup([f'at {VAR[t]} ∷ []' for t in NP])}
+
+  -- what the walk ends in
+  abbrev Post : Val → SProp 𝓤
+  Post = walkOf 𝓤 H A {EX}.ended stayed ({EX}.clauses 𝓤 H A mem run) .post (({LFTS}, {SHRS}, tt, a, vals), tt)
+
+  -- what `{callee}`'s triple binds outside
+  abbrev to-callee : CalleeC 𝓤 H A mem run .Ghost
+  to-callee = (({TL}, {TQ}, tt, {TARGS}, {TVALS}), tt)
+
+  -- what `{callee}` asks: the tokens, and the slices
+  abbrev tokens : List (Item 𝓤)
+  tokens = {items(ASK_T)}
+
+  abbrev slices : List (Item 𝓤)
+  slices = {items(ASK_O)}
+
+  -- `told`, with its token
+  abbrev kept : List (Item 𝓤)
+  kept = {items(REST)}
+
+  -- what is had at entry, in parts: what `{callee}` asks, and `told`
+  apart : ent 𝓤 (onEntry 𝓤 H A {EX}.signature {LFTS} {SHRS} a vals) (mean 𝓤 H A (raw (CalleeC 𝓤 H A mem run .pre to-callee) ⊛ {star(REST)}))
+  apart =
+      via 𝓤 _ (sorts3 𝓤 H A ({items(ENTRY_T)})
+      ({items(ENTRY_O)}) tokens slices kept {PI_APART} refl)
+      (via 𝓤 _ (assoc′ 𝓤 (⋆ 𝓤 H A tokens) (⋆ 𝓤 H A slices) (⋆ 𝓤 H A kept)) (monoL 𝓤 (⋆ 𝓤 H A kept) (alone 𝓤 H A (sep 𝓤 (⋆ 𝓤 H A tokens) (⋆ 𝓤 H A slices)))))
+
+  -- what is left of what is given up to it: the tokens, and what says the last lists
+  abbrev left : Lasts → List (Item 𝓤)
+  left zs = {items([tok(t) for t in GONE] + [fin(t) for t in SAID])}
+
+  -- what is known after it of the result r, its machine value w, and the last lists
+  abbrev Facts : Val → {RES} → Lasts → Type 0
+  Facts w r zs = {FACTS}
+
+  -- what is had after it
+  abbrev Said : Val → {RES} → Lasts → Item 𝓤
+  Said w r zs = given (Facts w r zs) (raw (⋆ 𝓤 H A (left zs)))
+
+  -- what `{callee}` gives
+  callee-said : (w : Val) → ent 𝓤 (CalleeC 𝓤 H A mem run .post to-callee w) (mean 𝓤 H A (later (some (λ (r : {RES}). some (Said w r)))))
+  callee-said w =
+      qed W (later (some (λ (r : {RES}). (({star(ASK_T)}) ⊛ ‵ ({RN}.the-row .own r (w ∷ []))) ⊛ raw (ensured 𝓤 H A callee.ended (callee.clauses 𝓤 H A mem run) {TL} {TARGS} tt r))) ∷ []) ∵
+      updating ! $ await ! tt $ pick ! (λ r. split ! $ move ! (1 ∷ []) $
+      use1 W (some (λ (zs : Lasts). ‵ (lasts callee.ended {TL} {TARGS} zs) ⊛ raw (fact 𝓤 ({CORE})))) (id⊢ 𝓤 _) $ pick ! (λ zs.
+      split ! $ move ! (1 ∷ []) $ heard ! ({CORE}) (λ e. {txt}
+
+  -- what `{teller}`'s triple binds outside
+  abbrev to-tell : {RES} → Val → TellC 𝓤 H A mem run .Ghost
+  to-tell r w = ((({K('told')}, tt), ({Q('told')}, tt), tt, {TELLARGS}, {TELLVALS}), tt)
+
+  -- what `{teller}` asks
+  goes-tell : (r : {RES}) (w : Val) → Is {RN}.the-row r (w ∷ []) → ent 𝓤 (⋆ 𝓤 H A kept) (TellC 𝓤 H A mem run .pre (to-tell r w))
+  goes-tell r w is = qed W kept ∵ {g_tell}
+
+  -- what is known after it of the number k, its machine value u, and the numbers told
+  abbrev Facts-told : {RES} → Val → ℕ → List ℕ → Type 0
+  Facts-told r u k vs = Is usize k (u ∷ []) × ((length vs ≡ length (told .now)) × ({TOLD('k', 'vs')}))
+
+  -- what is had after it
+  abbrev Told : {RES} → Val → ℕ → List ℕ → Item 𝓤
+  Told r u k vs = given (Facts-told r u k vs) ({tok('told')} ⊛ {FT})
+
+  -- what `{teller}` gives
+  tell-said : (r : {RES}) (w u : Val) → ent 𝓤 (TellC 𝓤 H A mem run .post (to-tell r w) u) (mean 𝓤 H A (later (some (λ (k : ℕ). some (Told r u k)))))
+  tell-said r w u =
+      qed W (later (some (λ (k : ℕ). (({tok('told')} ⊛ ‵ ftrue) ⊛ ‵ (usize .own k (u ∷ []))) ⊛ raw (ensured 𝓤 H A tell.ended (tell.clauses 𝓤 H A mem run) ({K('told')}, tt) {TELLARGS} tt k))) ∷ []) ∵
+      updating ! $ await ! tt $ pick ! (λ k. split ! $ move ! (1 ∷ []) $
+      use1 W (some (λ (ws : {TELLLASTS}). ‵ (lasts tell.ended ({K('told')}, tt) {TELLARGS} ws) ⊛ raw (fact 𝓤 ({TOLD('k', '(ws .0)')})))) (id⊢ 𝓤 _) $ pick ! (λ ws.
+      split ! $ move ! (1 ∷ []) $ heard ! ({TOLD('k', '(ws .0)')}) (λ e. fsplit ! $ fsplit ! $ move ! (1 ∷ []) $ feqL ! (λ l.
+      -- [the last numbers; the rest; the token and the result]
+      move ! (2 ∷ []) $ split ! $ move ! (1 ∷ []) $ facts ! usize (Is usize) (shows 𝓤 H A usize) k (u ∷ []) (λ is. split ! $
+      at-once ! $ show ! (λ (k′ : ℕ). mean 𝓤 H A (some (Told r u k′))) k $ show ! (λ (vs : List ℕ). mean 𝓤 H A (Told r u k vs)) (ws .0) $ checks ! (is, (l, e)) $ keep ! (0 ∷ 2 ∷ []) $ done !)))))
+
+  -- the exit
+  exits : (w : Val) (r : {RES}) (zs : Lasts) (u : Val) (k : ℕ) (vs : List ℕ) → Facts w r zs → Facts-told r u k vs → ent 𝓤 (⋆ 𝓤 H A (raw (⋆ 𝓤 H A (left zs)) ∷ {tok('told')} ∷ {FT} ∷ [])) (Post u)
+  exits w r zs u k vs f g =
+      qed W (raw (⋆ 𝓤 H A (left zs)) ∷ {tok('told')} ∷ {FT} ∷ []) ∵
+      suffices ! _ (ends-at 𝓤 H A {EX}.ended stayed ({EX}.clauses 𝓤 H A mem run) W (({LFTS}, {SHRS}, tt, a, vals), tt) u k {ENDS} {FITS}) $ says ! ({callee}-law {LAWARGS}) $
+      nothing ! $ nothing ! $ nothing ! $ {iso('usize', 'uint-makes 𝓤 H A W w64', 'k', '(g .0)')} $ move ! (4 ∷ 5 ∷ 6 ∷ []) $ by ! (sorts3 𝓤 H A (left zs)
+      ({items([tok('told'), FT, RESI, TRUES, TRUES, TRUES])})
+      ({items(EXIT_T)})
+      ({items(EXIT_F)}) ({RESI} ∷ []) {PI_EXIT} refl)
+
+  module _ (C : Calls 𝓤 H) (Λ : Loops 𝓤 H) (fm : FmC 𝓤 H (W .laws) C) {KNOWN} where
+    -- the walk
+    walk : ent 𝓤 (onEntry 𝓤 H A {EX}.signature {LFTS} {SHRS} a vals) (WpFn 𝓤 H C Λ code.function {ARGV} Post)
+    walk =
+        qed W (raw (onEntry 𝓤 H A {EX}.signature {LFTS} {SHRS} a vals) ∷ []) ∵
+{WALK}
+
+module _ {{M : Type 1}} (𝓤 : URA M) (H : Heap 𝓤) (A : Atoms 𝓤) (W : Given 𝓤 H A) (mem : Memory → SProp 𝓤) (run : Routine → Fun 𝓤) where
+  -- the walk, at each choice of lifetimes and arguments
+  {callee}-walks : (C : Calls 𝓤 H) (Λ : Loops 𝓤 H) → FmC 𝓤 H (W .laws) C → {KARR('C')} → Walks 𝓤 H A {EX}.ended stayed (WpFn 𝓤 H C Λ code.function) ({EX}.clauses 𝓤 H A mem run)
+  {callee}-walks C Λ fm {KN} = walked 𝓤 H A {EX}.ended stayed ({EX}.clauses 𝓤 H A mem run) (WpFn 𝓤 H C Λ code.function)
+      (λ κs. {tup(['slice-vals'] * n)}) (λ κs. {tup([f'{"shr" if t == "s" else "mut"}-slice-tells (named {i}) (κs{proj(i)}) {el[t]}' for i, t in enumerate(NP)])})
+      (λ κs qs bounds a g are. via 𝓤 _ (fst∗ 𝓤 _ (emp 𝓤)) (walk 𝓤 H A W mem run {' '.join(f'(κs{proj(i)})' for i in range(n))} {' '.join(f'(qs{proj(i)})' for i in range(n))}
+      {' '.join(f'(a{proj(i)})' for i in range(n) if NP[i] != 'errors')} (a{proj(idx['errors'])}) {' '.join(f'(are{proj(i)} .0 .1)' for i in range(n))} C Λ fm {KN}))
+
+-- the function's MIR meets the contract
+{callee}-meets : {{M : Type 1}} (𝓤 : URA M) (H : Heap 𝓤) (A : Atoms 𝓤) → Given 𝓤 H A → (mem : Memory → SProp 𝓤) (run : Routine → Fun 𝓤) (𝓣 : Tables 𝓤 H) → {KARR('𝓣 .C')}
+    → Meets 𝓤 H A {EX}.signature (WpFn 𝓤 H (𝓣 .C) (𝓣 .Λ) code.function) ({EX}.spec 𝓤 H A mem run)
+{callee}-meets 𝓤 H A W mem run 𝓣 {KN} =
+    walk-meets 𝓤 H A {EX}.ended stayed W {GOS} ({EX}.clauses 𝓤 H A mem run)
+    (WpFn 𝓤 H (𝓣 .C) (𝓣 .Λ) code.function) (WpFn-mono 𝓤 H (W .laws) 𝓣 code.function) ({callee}-walks 𝓤 H A W mem run (𝓣 .C) (𝓣 .Λ) (fmOf 𝓤 H (W .laws) 𝓣) {KN})
+
+-- the function meets its contract
+pub {name}-spec : {{M : Type 1}} → stated.statement M
+unfolding code.routine tablesOf
+{name}-spec 𝓤 H 𝓜 𝓖 𝓡 =
+    entered 𝓤 H (tripleOf 𝓤 H (𝓖 .A) {EX}.signature ({EX}.spec 𝓤 H (𝓖 .A) (𝓜 .mem) (𝓡 .run)))
+    (tables-of 𝓤 H 𝓜 𝓡 code.env .C) (tables-of 𝓤 H 𝓜 𝓡 code.env .Λ) #{key(fn)} code.function (code.unfolded 𝓤 H 𝓜 𝓡)
+    ({callee}-meets 𝓤 H (𝓖 .A) (givenOf 𝓤 H 𝓜 𝓖) (𝓜 .mem) (𝓡 .run) (tablesOf 𝓤 H 𝓜 (tables-of 𝓤 H 𝓜 𝓡 code.env))
+''' + '\n'.join('    ' + CT(*x) for x in CALLEES) + ')\n'
+top = f'''-- `{CR}::{fn}` meets its contract: a walk of its MIR, by hand. All that it knows of `{callee}` and `{teller}` is that each meets its contract. Assumes nothing.
+-- Every slice but `told` is given up to `{callee}` for good, and then `told` to `{teller}`. The walk ends in `{callee}-law` of the laws, and reads no definition that a contract cites.
+'''
+crate = spec(*(['told as reported', 'reportOf', 'checkedAnswer', 'reportNumber', 'textLength'] if REP else ['held', 'answerNumber', 'checkOf']), 'lent', 'toldNumbers', 'numberTold') + den('ErrorRow') + den(RES) + f'use {ty("ErrorRow")} as E\nuse {ty(RES)} as {RN}\nuse {ty(RES)}.Laws as {RN}′\n' + f'''use lib.Seq.{{sets}}
+use Rattle.lending.specs.Sorts.{{sorts3, alone}}
+use Rattle.lending.specs.Frees.{{full, frees-all}}
+use Rattle.checker.specs.Handing.{{at}}
+use Rattle.{CR}.proofs.{LAW[CR]}.{{{callee}-law}}
+''' + cites([(f, a) for f, a, c in CALLEES]) + self(fn, EX)
+print(tidy(top + uses(body) + crate + body), end='')
