@@ -65,7 +65,7 @@ errors-length = 4096
 
 -- the memory of the walk, with 2,048 equations
 abbrev pub memory-length : ℕ
-memory-length = 96162
+memory-length = 86946
 
 -- a lent table is below its length; the log may have any
 unfoldable pub tooShort : Lent → Bool

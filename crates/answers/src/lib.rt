@@ -21,7 +21,7 @@ pub const TYPES: usize = 21504;
 pub const ERRORS: usize = 4096;
 
 // The memory of the walk, with room for the 2,048 equations that a body can raise.
-pub const MEMORY: usize = 96162;
+pub const MEMORY: usize = 86946;
 
 // How many rows of each table are in use.
 pub struct Totals {

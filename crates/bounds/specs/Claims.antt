@@ -98,9 +98,13 @@ module _ (n : Counts) (rows cells : List ℕ) (w : WellFormed n rows cells) (o :
   pub inputs-8192 : inputTotal (after n rows cells o .rows) ≤ 8192 + n .nodes
   inputs-8192 = omega (arith, inputs-bound, w .limited .types)
 
-  -- at most 4,096 errors
+  -- at most 3,072 errors,
+  pub errors-3072 : length (after n rows cells o .errs) ≤ 3072
+  errors-3072 = omega (arith, errors-bound, w .limited .nodes)
+
+  -- so at most the 4,096 that are lent
   pub errors-4096 : length (after n rows cells o .errs) ≤ 4096
-  errors-4096 = omega (arith, errors-bound, w .limited .nodes)
+  errors-4096 = omega (arith, errors-3072)
 
   -- no table is over its limit
   pub never-full : Fits (after n rows cells o)
@@ -108,7 +112,7 @@ module _ (n : Counts) (rows cells : List ℕ) (w : WellFormed n rows cells) (o :
     rows = omega (arith, types-bound, w .limited .types, w .limited .nodes);
     vars = variables-1024;
     inputs = omega (arith, inputs-8192, w .limited .nodes);
-    errors = errors-4096;
+    errors = errors-3072;
     equations = omega (arith, equations-bound, w .limited .nodes);
   }
 
@@ -199,7 +203,7 @@ module _ (n : Counts) (rows cells : List ℕ) (w : WellFormed n rows cells) wher
 
 -- ── 8. the promise of `type_body`, its answer, and demand 3 ──
 
--- of a body that was read, in a memory of at least 90,018 cells: the answer is that of the rules, and the memory holds the state in which the body ends
+-- of a body that was read, in a memory of at least 80,802 cells: the answer is that of the rules, and the memory holds the state in which the body ends
 pub typed-in-memory : (n : Counts) (rows cells : List ℕ) → WellFormed n rows cells → (m m′ : List ℕ) (r : Ruled) → log-at ≤ length m → BodyTyped m m′ r n rows cells → TypedBy m′ r n rows cells
 typed-in-memory n rows cells w m m′ r large t = t .by large (never-full n rows cells w (fnLine rows cells .output .0))
 

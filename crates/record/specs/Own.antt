@@ -30,9 +30,9 @@ use Rattle.record.specs.declared.TypingError.{TypingError}
 abbrev pub most-nodes : ℕ
 most-nodes = 1024
 
--- the most errors
+-- the most errors: three for each node
 abbrev pub most-errors : ℕ
-most-errors = 4096
+most-errors = 3072
 
 -- the nodes lie behind the tables of types and variables, six cells each
 abbrev pub nodes-at : ℕ
@@ -44,7 +44,7 @@ errors-at = 53154
 
 -- the log lies behind the errors, three cells for each equation
 abbrev pub log-at : ℕ
-log-at = 90018
+log-at = 80802
 
 -- ── nodes: whether it is typed, RAW, EXTRA's tag and number, whether it is resolved, FINAL ──
 

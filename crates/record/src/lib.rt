@@ -31,19 +31,19 @@ use type_table::VarId;
 use unify::Answer;
 use unify::Cause;
 
-// The most nodes, and the most errors.
+// The most nodes, and the most errors: three for each node.
 pub const MOST_NODES: u16 = 1024;
 
-pub const MOST_ERRORS: u16 = 4096;
+pub const MOST_ERRORS: u16 = 3072;
 
 // Where the regions begin: nodes of six cells, errors of nine, equations of three.
 pub const NODES_AT: usize = 47010;
 
 pub const ERRORS_AT: usize = 53154;
 
-pub const LOG_AT: usize = 90018;
+pub const LOG_AT: usize = 80802;
 // How many cells the walk needs; what a lent memory has more is the log of equations.
-pub const MEMORY: usize = 90018;
+pub const MEMORY: usize = 80802;
 
 // The running record: the counts of the tables, and the type that `return` answers to.
 pub struct Record {

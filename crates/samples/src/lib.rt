@@ -21,7 +21,7 @@ pub const BYTE_BEFORE: u8 = 7;
 // and nine cells.
 pub const ROWS: usize = 9614;
 
-pub const CELLS: usize = 98313;
+pub const CELLS: usize = 94725;
 
 pub const NODES: usize = 6153;
 
@@ -36,7 +36,7 @@ const LEAST_ERRORS: usize = 36864;
 
 pub const LOG: usize = 6153;
 
-pub const MEMORY: usize = 96171;
+pub const MEMORY: usize = 86955;
 
 // The longest output that is lent.
 pub const LONGEST: usize = 131072;
@@ -625,7 +625,7 @@ pub struct Lengths {
 
 // What is lent by the marks of a name.
 pub fn lengths_of(name: &[u8]) -> Lengths
-    ensures { λ r. ⌜ (r .rows ≤ 9614) × ((r .cells ≤ 98313) × ((r .nodes ≤ 6153) × ((r .vars ≤ 6153) × ((r .types ≤ 21513) × ((r .errors ≤ 36873) × ((r .log ≤ 6153) × ((r .memory ≤ 96171) × (r .out ≤ 131072)))))))) ⌝ }
+    ensures { λ r. ⌜ (r .rows ≤ 9614) × ((r .cells ≤ 94725) × ((r .nodes ≤ 6153) × ((r .vars ≤ 6153) × ((r .types ≤ 21513) × ((r .errors ≤ 36873) × ((r .log ≤ 6153) × ((r .memory ≤ 86955) × (r .out ≤ 131072)))))))) ⌝ }
 {
     let k = body_text::find(name, 0, b'@');
     let l = mark(&name[0..k]);

@@ -4,6 +4,7 @@ pub mod Kept
 pub mod Linked
 pub mod Stored
 pub mod Counting
+pub mod Bytes
 pub mod Zeros
 pub mod Repeats
 pub mod Frame

@@ -162,7 +162,7 @@ read-filled c [] x e = let z : _≡_ {A = ℕ} 0 1 = cc (empty-bad c) in omega a
 read-filled c (b ∷ s) x e = omega arith
 
 -- the bytes of some parts, with one more for each part
-unfoldable size : List (List ℕ) → ℕ
+unfoldable pub size : List (List ℕ) → ℕ
 size [] = 0
 size (s ∷ ss) = length s + 1 + size ss
 
@@ -181,7 +181,7 @@ split-size c (x ∷ s) =
     (omega (arith, onto-size x (length s) (split c s) (split-size c s)))
 
 -- so are the parts from any place on
-parts-size : (c p : ℕ) (v : List ℕ) → size (partsFrom c p v) ≤ length v + 1
+pub parts-size : (c p : ℕ) (v : List ℕ) → size (partsFrom c p v) ≤ length v + 1
 unfolding size partsFrom
 parts-size c p v =
     either (λ (ss : List (List ℕ)). size ss ≤ length v + 1) (leb p (length v)) (split c (drop p v)) []

@@ -9,6 +9,7 @@ use mathlib.Core.List.{List}
 use mathlib.Core.Bool.{Bool, true, false, cond, true≢false, false≢true}
 use lib.Dec.{leb, ltb, eqb}
 use lib.ListN.{length, take, drop, length-drop}
+use lib.Seq.{length-take-le}
 use borrow.Author.Tests.{ltb-true, ltb-false, leb-true, eqb-true}
 use Rattle.forms.specs.declared.Cell.{Cell}
 use Rattle.forms.specs.declared.Fault.the-variants as fault
@@ -23,6 +24,7 @@ use Rattle.well_formed.specs.Parsed.{ParsedGood, parsed-good, parsed-fau
 use Rattle.well_formed.specs.Linked.{LinkedGood, linked-good}
 use Rattle.well_formed.specs.Stored.{stored-length, stored-before, stored-tag, stored-value, put-length, put-other, put-user, put-form, put-first, put-count, put-levels}
 use Rattle.well_formed.specs.Counting.{counted-fields, behind-new, behind-new-nodes, grown, counted-more, counted-own, counted-limited, rows-inside}
+use Rattle.well_formed.specs.Bytes.{Enough, letters, key-letters, line-enough}
 use Rattle.well_formed.specs.Zeros.{zero-line}
 use Rattle.well_formed.specs.Repeats.{none-same, same-kept}
 use Rattle.well_formed.specs.Frame.{Frame, LineGood, levels-framed, line-framed, row-of}
@@ -350,10 +352,10 @@ module _ (st : State) (k f : ℕ) (v : List ℕ) (l : List Cell) (cells rows : L
     zero = zero-line n k (reading .limited) hk room f l depth rows rows′ cells (links .outside) (reading .zero);
   }
 
--- a step behind which the tables are as they should be, and the fields have taken at most b bytes, or a fault that is not of levels
+-- a step behind which the tables are as they should be, and b bytes are enough for the fields, or a fault that is not of levels
 abbrev pub GoodStep : ℕ → Stepped → Type 0
 GoodStep b (bad x) = faultNumber x < 6
-GoodStep b (next st cells rows) = Reading st cells rows × (st .counts .fields * 2 ≤ b)
+GoodStep b (next st cells rows) = Reading st cells rows × Enough b (st .counts .fields)
 
 -- a key in order is a key, and no earlier one
 in-order : (was k : ℕ) → inOrder was k ≡ true → (k < 6) × (was ≤ k)
@@ -372,13 +374,13 @@ unfolding countOf limitOf
 nodes-inside st cells rows r = let most : st .counts .nodes ≤ 1024 = r .limited 4 in omega (arith, most, r .rows-long)
 
 -- the fields behind a line
-fields-advance : (st : State) (k m d b : ℕ) → st .counts .fields * 2 + m * 2 ≤ b → advance st k m d .counts .fields * 2 ≤ b
+fields-advance : (st : State) (k m d b : ℕ) → Enough b (st .counts .fields + m) → Enough b (advance st k m d .counts .fields)
 unfolding advance counted
-fields-advance st k m d b h = omega arith
+fields-advance st k m d b h = h
 
 -- a line whose value was parsed
 judged-good : (st : State) (k f : ℕ) (v : List ℕ) (l : List Cell) (cells rows : List ℕ) (b : ℕ) → Reading st cells rows → k < 6 → st .key ≤ k → ParsedGood k v f l
-    → (st .counts .fields + length l) * 3 ≤ length cells → st .counts .fields * 2 + length l * 2 ≤ b
+    → (st .counts .fields + length l) * 3 ≤ length cells → Enough b (st .counts .fields + length l)
     → GoodStep b (judged st k f (length l) (storeFrom cells (st .counts .fields) l) rows)
 unfolding judged placed
 judged-good st k f v l cells rows b reading hk later good wide fits =
@@ -404,18 +406,19 @@ judged-good st k f v l cells rows b reading hk later good wide fits =
     )
 
 -- a line whose key and value are known
-valued-good : (st : State) (k : ℕ) (v : List ℕ) (cells rows : List ℕ) (b : ℕ) (p : Parsed) → parseLine k v ≡ p → Reading st cells rows → k < 6 → st .key ≤ k
-    → b ≤ most-bytes → st .counts .fields * 2 + (length v + 1) ≤ b → GoodStep b (valued st k (lay p cells (st .counts .fields)) rows)
-valued-good st k v cells rows b (wrong x) q reading hk later most fits = parsed-fault k v x q
-valued-good st k v cells rows b (parsed f l) q reading hk later most fits =
+valued-good : (st : State) (k : ℕ) (v : List ℕ) (cells rows : List ℕ) (a b : ℕ) (p : Parsed) → parseLine k v ≡ p → Reading st cells rows → k < 6 → st .key ≤ k
+    → Enough a (st .counts .fields) → a + (letters k + length v + 2) ≤ b → b ≤ most-bytes → GoodStep b (valued st k (lay p cells (st .counts .fields)) rows)
+valued-good st k v cells rows a b (wrong x) q reading hk later had fits most = parsed-fault k v x q
+valued-good st k v cells rows a b (parsed f l) q reading hk later had fits most =
     let good : ParsedGood k v f l = parsed-good k v f l q in
-    judged-good st k f v l cells rows b reading hk later good (omega (arith, good .bytes, reading .cells-long)) (omega (arith, good .bytes))
+    let all : Enough b (st .counts .fields + length l) = omega (arith, line-enough k f v l good) in
+    judged-good st k f v l cells rows b reading hk later good (omega (arith, all, reading .cells-long)) all
 
--- a line keeps what is known of the tables, and its fields take no more bytes than it has
-pub step-good : (l : List ℕ) (st : State) (cells rows : List ℕ) → Reading st cells rows → st .counts .fields * 2 + length l ≤ most-bytes
-    → GoodStep (st .counts .fields * 2 + length l) (stepOf l st cells rows)
+-- a line behind b bytes keeps what is known of the tables, and its own bytes are enough for its fields
+pub step-good : (l : List ℕ) (b : ℕ) (st : State) (cells rows : List ℕ) → Reading st cells rows → Enough b (st .counts .fields) → b + length l + 1 ≤ most-bytes
+    → GoodStep (b + length l + 1) (stepOf l st cells rows)
 unfolding stepOf
-step-good l st cells rows reading fits = by (ltb (before 61 l) (length l)) refl (inOrder (st .key) (keyOf (take (before 61 l) l))) refl
+step-good l b st cells rows reading enough most = by (ltb (before 61 l) (length l)) refl (inOrder (st .key) (keyOf (take (before 61 l) l))) refl
   where
     k : ℕ
     k = keyOf (take (before 61 l) l)
@@ -424,9 +427,11 @@ step-good l st cells rows reading fits = by (ltb (before 61 l) (length l)) refl 
     v = drop (before 61 l + 1) l
 
     by : (a : Bool) → ltb (before 61 l) (length l) ≡ a → (c : Bool) → inOrder (st .key) k ≡ c
-        → GoodStep (st .counts .fields * 2 + length l) (cond a (cond c (valued st k (lay (parseLine k v) cells (st .counts .fields)) rows) (bad fault.Form)) (bad fault.Form))
+        → GoodStep (b + length l + 1) (cond a (cond c (valued st k (lay (parseLine k v) cells (st .counts .fields)) rows) (bad fault.Form)) (bad fault.Form))
     by true p true q =
-        valued-good st k v cells rows (st .counts .fields * 2 + length l) (parseLine k v) refl reading (in-order (st .key) k q .0) (in-order (st .key) k q .1) fits
-        (omega (arith, length-drop (before 61 l + 1) l, ltb-true (before 61 l) (length l) p))
+        let sign : before 61 l < length l = ltb-true (before 61 l) (length l) p in
+        let word : letters k ≤ length (take (before 61 l) l) = key-letters (take (before 61 l) l) (in-order (st .key) k q .0) in
+        valued-good st k v cells rows b (b + length l + 1) (parseLine k v) refl reading (in-order (st .key) k q .0) (in-order (st .key) k q .1) enough
+        (omega (arith, word, length-take-le (before 61 l) l (omega (arith, sign)), length-drop (before 61 l + 1) l, sign)) most
     by true p false q = omega arith
     by false p c q = omega arith

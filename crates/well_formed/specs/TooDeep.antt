@@ -1,6 +1,6 @@
 -- The answer 6 is given only where 65 nodes stand in one another, or 5 of fun.
 -- Assumes nothing.
-use Prim.Native.Nat.{ℕ, zero, suc, _+_, _*_, _-_, _<_, _≤_}
+use Prim.Native.Nat.{ℕ, zero, suc, _+_, _-_, _<_, _≤_}
 use native.Mathlib.Nat.{zero-add}
 use native.Mathlib.Omega.{arith}
 use mathlib.Core.Path.{_≡_, refl, sym, ap, _∙_}
@@ -19,11 +19,13 @@ use Rattle.body.specs.declared.State.{State}
 use Rattle.body.specs.declared.Answer.the-variants as answer
 use Rattle.body.specs.Body.{most-bytes, rows-length, cells-length, first, countOf, baseOf, deeper, levelsOver, isDeep, Stepped, bad, next, stepOf, firstAhead, Ended, refused, read, finishOf, proceed, linesFrom, held, zeros, settle, bodyOf, faultNumber, answerNumber}
 use Rattle.well_formed.specs.Good.{Attained, RowGood, kindIn, behind, RowsGood}
+use Rattle.well_formed.specs.Parsed.{size, parts-size}
 use Rattle.well_formed.specs.Counting.{each, each-at}
+use Rattle.well_formed.specs.Bytes.{Enough}
 use Rattle.well_formed.specs.Frame.{without, without-kind}
 use Rattle.well_formed.specs.Reading.{DeepRow, Reading}
 use Rattle.well_formed.specs.Step.{GoodStep, step-good}
-use Rattle.well_formed.specs.WellFormed.{total, parts-total, start-reading}
+use Rattle.well_formed.specs.WellFormed.{start-reading}
 use Rattle.well_formed.specs.Behind.{onwards, behindLines, behindFile}
 use Rattle.well_formed.specs.Weight.{node-deeper}
 use Rattle.well_formed.specs.Levels.{Contains, Parent, Chain, funs, low-type}
@@ -252,24 +254,24 @@ finish-deep st l cells rows r = by (eqb (st .key) key-fn) (ltb ahead (st .counts
 
 -- a line and those that follow
 proceed-deep : (b l : ℕ) (x : Stepped) (k : State → List ℕ → List ℕ → Ended) (k′ : State → List ℕ → List ℕ → Stepped) → GoodStep b x
-    → ((st : State) (cells rows : List ℕ) → Reading st cells rows → st .counts .fields * 2 ≤ b → faultIn (k st cells rows) ≡ 6 → TooDeep (k′ st cells rows))
+    → ((st : State) (cells rows : List ℕ) → Reading st cells rows → Enough b (st .counts .fields) → faultIn (k st cells rows) ≡ 6 → TooDeep (k′ st cells rows))
     → faultIn (proceed x l k) ≡ 6 → TooDeep (onwards x k′)
 proceed-deep b l (bad x) k k′ g h e = omega arith
 proceed-deep b l (next st cells rows) k k′ g h e = h st cells rows (g .0) (g .1) e
 
--- the lines of a file
-lines-deep : (ss : List (List ℕ)) (l : ℕ) (st : State) (cells rows : List ℕ) → Reading st cells rows → st .counts .fields * 2 + total ss ≤ most-bytes
+-- the lines of a file behind b bytes of it
+lines-deep : (ss : List (List ℕ)) (l b : ℕ) (st : State) (cells rows : List ℕ) → Reading st cells rows → Enough b (st .counts .fields) → b + size ss ≤ most-bytes + 1
     → faultIn (linesFrom ss l st cells rows) ≡ 6 → TooDeep (behindLines ss st cells rows)
-unfolding linesFrom behindLines total
-lines-deep [] l st cells rows r b = λ e. omega arith
-lines-deep (s ∷ []) l st cells rows r b = by (eqb (length s) 0)
+unfolding linesFrom behindLines size
+lines-deep [] l b st cells rows r g h = λ e. omega arith
+lines-deep (s ∷ []) l b st cells rows r g h = by (eqb (length s) 0)
   where
     by : (x : Bool) → faultIn (cond x (finishOf st l cells rows) (refused fault.Form l)) ≡ 6 → TooDeep (next st cells rows)
     by true e = finish-deep st l cells rows r e
     by false e = absurd (omega arith)
-lines-deep (s ∷ t ∷ ts) l st cells rows r b =
-    proceed-deep (st .counts .fields * 2 + length s) l (stepOf s st cells rows) (linesFrom (t ∷ ts) (l + 1)) (behindLines (t ∷ ts)) (step-good s st cells rows r (omega arith))
-    (λ st′ cells′ rows′ r′ b′. lines-deep (t ∷ ts) (l + 1) st′ cells′ rows′ r′ (omega arith))
+lines-deep (s ∷ t ∷ ts) l b st cells rows r g h =
+    proceed-deep (b + length s + 1) l (stepOf s st cells rows) (linesFrom (t ∷ ts) (l + 1)) (behindLines (t ∷ ts)) (step-good s b st cells rows r g (omega arith))
+    (λ st′ cells′ rows′ r′ g′. lines-deep (t ∷ ts) (l + 1) (b + length s + 1) st′ cells′ rows′ r′ g′ (omega arith))
 
 -- an end has the number of its answer
 settle-number : (x : Ended) (rows cells : List ℕ) → answerNumber (settle x rows cells .answer) ≡ faultIn x
@@ -291,9 +293,9 @@ file-deep s rows cells = by (ltb most-bytes (length s)) refl (ltb (length rows) 
     by false p true q c r e = absurd (omega arith)
     by false p false q true r e = absurd (omega arith)
     by false p false q false r e =
-        lines-deep (partsFrom 10 0 s) 1 first (zeros cells) (zeros rows)
+        lines-deep (partsFrom 10 0 s) 1 0 first (zeros cells) (zeros rows)
         (start-reading rows cells (ltb-false (length rows) rows-length q) (ltb-false (length cells) cells-length r))
-        (omega (arith, parts-total s, ltb-false most-bytes (length s) p)) (sym (settle-number whole rows cells) ∙ e)
+        (omega arith) (omega (arith, parts-size 10 0 s, ltb-false most-bytes (length s) p)) (sym (settle-number whole rows cells) ∙ e)
 
 -- so is one that is refused for its levels
 pub only-deep : (s rows cells : List ℕ) (l : ℕ) → bodyOf s rows cells .answer ≡ answer.Refused fault.Levels l

@@ -1,6 +1,6 @@
 -- A body that was read has well-formed tables.
 -- Assumes nothing.
-use Prim.Native.Nat.{ℕ, zero, suc, _+_, _*_, _-_, _<_, _≤_}
+use Prim.Native.Nat.{ℕ, zero, suc, _+_, _-_, _<_, _≤_}
 use native.Mathlib.Nat.{zero-add, add-zero}
 use native.Mathlib.Omega.{arith}
 use mathlib.Core.Path.{_≡_, refl, ap, _∙_}
@@ -8,8 +8,8 @@ use mathlib.Core.List.{List, [], _∷_}
 use mathlib.Core.Bool.{Bool, true, false, cond, false≢true}
 use lib.Dec.{ltb, eqb}
 use lib.ListN.{length, length-replicate}
-use borrow.Author.Tests.{ltb-false, le-leb, leb-false, eqb-true}
-use Rattle.lex.specs.Text.{onto, split, partsFrom}
+use borrow.Author.Tests.{ltb-false, leb-false, eqb-true}
+use Rattle.lex.specs.Text.{partsFrom}
 use Rattle.forms.specs.declared.Fault.the-variants as fault
 use Rattle.forms.specs.Form.{key-type, key-def, key-inst, key-bind, key-node, key-fn}
 use Rattle.refs.specs.declared.Counts.{Counts}
@@ -18,35 +18,11 @@ use Rattle.body.specs.declared.State.{State}
 use Rattle.body.specs.declared.Answer.the-variants as answer
 use Rattle.body.specs.Body.{most-bytes, rows-length, cells-length, no-rows, first, limitOf, countOf, baseOf, isDeep, Stepped, bad, next, stepOf, isAhead, firstAhead, Ended, refused, read, finishOf, proceed, linesFrom, Held, held, zeros, settle, bodyOf}
 use Rattle.well_formed.specs.Good.{WellFormed}
+use Rattle.well_formed.specs.Parsed.{size, parts-size}
+use Rattle.well_formed.specs.Bytes.{Enough}
 use Rattle.well_formed.specs.Zeros.{ZeroBehind, zeros-behind}
 use Rattle.well_formed.specs.Reading.{Reading}
 use Rattle.well_formed.specs.Step.{GoodStep, step-good}
-
--- the bytes of some lines
-unfoldable pub total : List (List ℕ) → ℕ
-total [] = 0
-total (s ∷ ss) = length s + total ss
-
--- a byte before the first line
-onto-total : (x : ℕ) (ss : List (List ℕ)) → total (onto x ss) ≡ total ss + 1
-unfolding total
-onto-total x [] = refl
-onto-total x (s ∷ ss) = omega arith
-
--- the lines of a file have no more bytes than the file
-split-total : (c : ℕ) (s : List ℕ) → total (split c s) ≤ length s
-unfolding total split
-split-total c [] = omega arith
-split-total c (x ∷ xs) = by (eqb x c) (split-total c xs)
-  where
-    by : (b : Bool) → total (split c xs) ≤ length xs → total (cond b ([] ∷ split c xs) (onto x (split c xs))) ≤ suc (length xs)
-    by true h = omega arith
-    by false h = omega (arith, onto-total x (split c xs))
-
--- the lines from the start on
-pub parts-total : (s : List ℕ) → total (partsFrom 10 0 s) ≤ length s
-unfolding partsFrom
-parts-total s = rw (le-leb 0 (length s) (omega arith)) (split-total 10 s)
 
 -- where no row of m is ahead, the row i is not
 none-ahead : (m r : ℕ) (n : Counts) (cells rows : List ℕ) (i : ℕ) → r + m ≤ firstAhead m r n cells rows → i < m → isAhead (r + i) n cells rows ≡ false
@@ -77,7 +53,7 @@ Fine (refused x l) = Unit {0}
 Fine (read n cells rows) = WellFormed n rows cells × ZeroBehind n rows cells
 
 -- what is known behind the last line
-ending : (st : State) (cells rows : List ℕ) → Reading st cells rows → st .counts .fields * 2 ≤ most-bytes → st .key ≡ key-fn
+ending : (st : State) (cells rows : List ℕ) → Reading st cells rows → Enough most-bytes (st .counts .fields) → st .key ≡ key-fn
     → st .counts .types ≤ firstAhead (st .counts .types) 0 (st .counts) cells rows → st .deep ≡ false → WellFormed (st .counts) rows cells
 unfolding countOf limitOf baseOf isDeep
 ending st cells rows r b k a d = record {
@@ -107,7 +83,7 @@ ending st cells rows r b k a d = record {
 }
 
 -- what is judged behind the last line
-finish-good : (st : State) (l : ℕ) (cells rows : List ℕ) → Reading st cells rows → st .counts .fields * 2 ≤ most-bytes → Fine (finishOf st l cells rows)
+finish-good : (st : State) (l : ℕ) (cells rows : List ℕ) → Reading st cells rows → Enough most-bytes (st .counts .fields) → Fine (finishOf st l cells rows)
 unfolding finishOf
 finish-good st l cells rows r b = by (eqb (st .key) key-fn) refl (ltb ahead (st .counts .types)) refl (st .deep) refl
   where
@@ -123,23 +99,23 @@ finish-good st l cells rows r b = by (eqb (st .key) key-fn) refl (ltb ahead (st 
 
 -- a line and those that follow
 proceed-good : (b l : ℕ) (x : Stepped) (k : State → List ℕ → List ℕ → Ended) → GoodStep b x
-    → ((st : State) (cells rows : List ℕ) → Reading st cells rows → st .counts .fields * 2 ≤ b → Fine (k st cells rows)) → Fine (proceed x l k)
+    → ((st : State) (cells rows : List ℕ) → Reading st cells rows → Enough b (st .counts .fields) → Fine (k st cells rows)) → Fine (proceed x l k)
 proceed-good b l (bad x) k g h = tt
 proceed-good b l (next st cells rows) k g h = h st cells rows (g .0) (g .1)
 
--- the lines of a file
-lines-good : (ss : List (List ℕ)) (l : ℕ) (st : State) (cells rows : List ℕ) → Reading st cells rows → st .counts .fields * 2 + total ss ≤ most-bytes
+-- the lines of a file behind b bytes of it
+lines-good : (ss : List (List ℕ)) (l b : ℕ) (st : State) (cells rows : List ℕ) → Reading st cells rows → Enough b (st .counts .fields) → b + size ss ≤ most-bytes + 1
     → Fine (linesFrom ss l st cells rows)
-unfolding linesFrom total
-lines-good [] l st cells rows r b = tt
-lines-good (s ∷ []) l st cells rows r b = by (eqb (length s) 0)
+unfolding linesFrom size
+lines-good [] l b st cells rows r e h = tt
+lines-good (s ∷ []) l b st cells rows r e h = by (eqb (length s) 0)
   where
     by : (x : Bool) → Fine (cond x (finishOf st l cells rows) (refused fault.Form l))
     by true = finish-good st l cells rows r (omega arith)
     by false = tt
-lines-good (s ∷ t ∷ ts) l st cells rows r b =
-    proceed-good (st .counts .fields * 2 + length s) l (stepOf s st cells rows) (linesFrom (t ∷ ts) (l + 1)) (step-good s st cells rows r (omega arith))
-    (λ st′ cells′ rows′ r′ b′. lines-good (t ∷ ts) (l + 1) st′ cells′ rows′ r′ (omega arith))
+lines-good (s ∷ t ∷ ts) l b st cells rows r e h =
+    proceed-good (b + length s + 1) l (stepOf s st cells rows) (linesFrom (t ∷ ts) (l + 1)) (step-good s b st cells rows r e (omega arith))
+    (λ st′ cells′ rows′ r′ e′. lines-good (t ∷ ts) (l + 1) (b + length s + 1) st′ cells′ rows′ r′ e′ (omega arith))
 
 -- a file starts with no row of any key
 none-counted : (k : ℕ) → countOf no-rows k ≡ 0
@@ -184,7 +160,7 @@ settle-good (read n′ cells′ rows′) rows cells n f e = let same : n′ ≡ 
 file-good : (s rows cells : List ℕ) → length s ≤ most-bytes → rows-length ≤ length rows → cells-length ≤ length cells
     → Fine (linesFrom (partsFrom 10 0 s) 1 first (zeros cells) (zeros rows))
 file-good s rows cells h hr hc =
-    lines-good (partsFrom 10 0 s) 1 first (zeros cells) (zeros rows) (start-reading rows cells hr hc) (omega (arith, parts-total s))
+    lines-good (partsFrom 10 0 s) 1 0 first (zeros cells) (zeros rows) (start-reading rows cells hr hc) (omega arith) (omega (arith, parts-size 10 0 s))
 
 -- so are those of a body that was read
 read-good : (s rows cells : List ℕ) (n : Counts) → HeldGood n (bodyOf s rows cells)
