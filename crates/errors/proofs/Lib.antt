@@ -1,3 +1,4 @@
 pub mod ErrorLaws
 pub mod Listed
 pub mod Row
+pub mod NoError

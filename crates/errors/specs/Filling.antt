@@ -22,7 +22,7 @@ use Rattle.errors.specs.Rows.{zeroRow, rowOf, rowAt, errorRows, paddedRo
 pub length-filled : (t : List ErrorRow) (f : ℕ → ErrorRow) (k : ℕ) → length (filledTo t f k) ≡ length t
 unfolding filledTo
 length-filled t f zero = refl
-length-filled t f (suc k) = length-set (filledTo t f k) k (f k) ∙ length-filled t f k
+length-filled t f (suc k) = length-set (filledTo t f k) k _ ∙ length-filled t f k
 
 -- a row that was filled
 pub filled-at : (t : List ErrorRow) (f : ℕ → ErrorRow) (k i : ℕ) → i < length t → i < k → rowAt (filledTo t f k) i ≡ f i
@@ -31,7 +31,7 @@ filled-at t f zero i h l = absurd (omega arith)
 filled-at t f (suc k) i h l = by (filled-at t f k i h) (decLt i k)
   where
     by : (i < k → rowAt (filledTo t f k) i ≡ f i) → Dec (i < k) → rowAt (set (filledTo t f k) k (f k)) i ≡ f i
-    by again (yes g) = getD-set-other (filledTo t f k) k i (f k) zeroRow (λ q. omega arith) ∙ again g
+    by again (yes g) = getD-set-other (filledTo t f k) k i _ zeroRow (λ q. omega arith) ∙ again g
     by again (no g) =
         let e : i ≡ k = omega arith in
         rw e (getD-set-same (filledTo t f k) k (f k) zeroRow (omega (arith, length-filled t f k)))
@@ -50,7 +50,7 @@ unfolding rowIn
 row-of m n i h = rw (lt-ltb i n h)
 
 -- past the last
-row-past : (m : List ℕ) (n i : ℕ) → n ≤ i → rowIn m n i ≡ zeroRow
+pub row-past : (m : List ℕ) (n i : ℕ) → n ≤ i → rowIn m n i ≡ zeroRow
 unfolding rowIn
 row-past m n i h = rw (le-ltb i n h)
 

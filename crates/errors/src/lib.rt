@@ -131,14 +131,28 @@ pub fn append_error(errors: &mut [ErrorRow], i: usize, r: ErrorRow)
     }
 }
 
-// The first `end` rows, from the memory of a walk with n errors: those of the errors, zeros behind them.
+// The first `end` rows, from the memory of a walk with n errors: those of the errors, zeros behind them. The zeros have a loop of their own, which ends
+// with the last row at the latest: so the compiler leaves out the test for room in it, and makes it one clearing of memory.
 pub fn fill_errors(errors: &mut [ErrorRow], m: &[u16], n: u16, end: usize)
     ensures { λ _. ⌜ now (errors .exit) ≡ filledTo (now (errors .entry)) (rowIn (now (m .entry)) n) end ⌝ }
 {
+    let mut stop = errors.len();
+    if end < stop {
+        stop = end;
+    }
+    let mut used = n as usize;
+    if stop < used {
+        used = stop;
+    }
+    let z = no_error();
     let mut i = 0;
-    while i < end {
+    while i < used {
         let r = error_row(m, n, i);
         append_error(errors, i, r);
+        i += 1;
+    }
+    while i < stop {
+        append_error(errors, i, z);
         i += 1;
     }
 }
