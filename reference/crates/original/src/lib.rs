@@ -75,6 +75,8 @@ pub struct Want {
 
 pub struct Run {
     pub outcome: Outcome,
+    /// The macro or operation by which the source panicked, where document 01 has a refusal.
+    pub panicked: Option<&'static str>,
     pub branches: HashSet<Branch>,
     pub entries: Vec<Entry>,
 }
@@ -91,8 +93,8 @@ pub fn run(body: &Body, want: Want) -> Run {
     let session = Session::new(unsafe { &*diag }, Flags, s, a, map);
     let session = Box::into_raw(Box::new(session));
 
-    let outcome = walk(unsafe { &*session }, a, body, &file, want);
-    let run = Run { outcome, branches: observe::branches(), entries: observe::entries() };
+    let (outcome, panicked) = walk(unsafe { &*session }, a, body, &file, want);
+    let run = Run { outcome, panicked, branches: observe::branches(), entries: observe::entries() };
 
     unsafe {
         drop(Box::from_raw(session));
@@ -103,7 +105,14 @@ pub fn run(body: &Body, want: Want) -> Run {
     run
 }
 
-fn walk(s: &'static Session<'static>, a: &'static Arena, body: &Body, file: &observe::File, want: Want) -> Outcome {
+/// What came of it, and by what the source panicked.
+fn walk(
+    s: &'static Session<'static>,
+    a: &'static Arena,
+    body: &Body,
+    file: &observe::File,
+    want: Want,
+) -> (Outcome, Option<&'static str>) {
     let mut text = String::new();
     let result = catch_unwind(AssertUnwindSafe(|| {
         arm_guard(STEPS, STACK);
@@ -117,7 +126,7 @@ fn walk(s: &'static Session<'static>, a: &'static Arena, body: &Body, file: &obs
     }));
     disarm_guard();
     let place = observe::place().map_or(body.body, |n| n as usize);
-    match result {
+    let outcome = match result {
         Ok(()) => Outcome::Report(text),
         Err(thrown) if thrown.is::<Endless>() => Outcome::Outside(Outside::Endless),
         Err(thrown) if thrown.is::<Stopped>() => match observe::first_cycle() {
@@ -125,11 +134,12 @@ fn walk(s: &'static Session<'static>, a: &'static Arena, body: &Body, file: &obs
             _ => Outcome::Outside(Outside::Inside(place)),
         },
         Err(thrown) => match told(&message(&*thrown)) {
-            Some((answer, _)) if !want.source => Outcome::Refused(answer, place),
+            Some((answer, by)) if !want.source => return (Outcome::Refused(answer, place), Some(by)),
             Some((_, by)) => Outcome::Panic(by.to_string()),
             None => Outcome::Panic(message(&*thrown)),
         },
-    }
+    };
+    (outcome, None)
 }
 
 /// The first line of a panic's message.

@@ -42,6 +42,12 @@ pub fn run(list: &str, workspace: &str, sample: &str) -> Result<bool, String> {
     for part in ["Cargo.toml", "Cargo.lock", "crates", "stand-ins", "source"] {
         command("cp", &["-r", part, &here], &workspace)?;
     }
+    // crates/compare names a crate beside this workspace, which cargo looks for and does not build.
+    let beside = workspace.join("target/firmware/rust");
+    std::fs::create_dir_all(&beside).map_err(|e| e.to_string())?;
+    for part in ["Cargo.toml", "build.rs", "src"] {
+        command("cp", &["-r", part, &beside.to_string_lossy()], &workspace.join("../firmware/rust"))?;
+    }
     let (mut good, mut bad) = (0, 0);
     for version in text.split("\n== ").skip(1).map(parse) {
         let told = replay(&version, &copy, &sample.to_string_lossy())?;

@@ -2,18 +2,18 @@
 use crate::node::{Bind, Expr, Field, FnSig, Lambda, Node, ThingKind};
 use lychee_ast::Name;
 use lychee_util::def::{BodyId, DefId, DefPath, DefType};
+use lychee_util::map::Map;
 use lychee_util::symbols::SymbolId;
-use std::collections::HashMap;
 
 lychee_util::newtyped_index!(AirId, AirIdMap, AirIdVec);
 
 #[derive(Default)]
 pub struct AirMap<'a> {
-    pub def_types: HashMap<DefId, DefType>,
-    pub defs: HashMap<DefId, Node<'a>>,
-    pub fns: HashMap<DefId, &'a FnSig<'a>>,
-    pub lambdas: HashMap<DefId, &'a Lambda<'a>>,
-    pub bodies: HashMap<BodyId, &'a Expr<'a>>,
+    pub def_types: Map<DefId, DefType>,
+    pub defs: Map<DefId, Node<'a>>,
+    pub fns: Map<DefId, &'a FnSig<'a>>,
+    pub lambdas: Map<DefId, &'a Lambda<'a>>,
+    pub bodies: Map<BodyId, &'a Expr<'a>>,
     /// All nodes that `binds_for_type` looks through, in file order.
     pub nodes: Vec<Node<'a>>,
 }

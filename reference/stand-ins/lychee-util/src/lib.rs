@@ -13,6 +13,9 @@ pub mod symbols;
 
 pub mod arena;
 pub mod flags;
+#[cfg(feature = "observe")]
+mod guard;
+pub mod map;
 pub mod pooled;
 pub mod recorder;
 pub mod sources;
@@ -23,11 +26,11 @@ pub mod sources;
 macro_rules! cache {
     ([lock: $lock:path] $( $(#[$m:meta])* $vis:vis fn $name:ident (& $lf:lifetime ! self, $arg:ident : $argty:ty) -> $ret:ty { $body:path } )*) => {
         pub struct Cache<'cx> {
-            $( $name: ::std::cell::RefCell<::std::collections::HashMap<$argty, $ret>>, )*
+            $( $name: ::std::cell::RefCell<$crate::map::Map<$argty, $ret>>, )*
         }
         impl<'cx> Cache<'cx> {
             pub fn new() -> Self {
-                Self { $( $name: ::std::cell::RefCell::new(::std::collections::HashMap::new()), )* }
+                Self { $( $name: ::std::cell::RefCell::default(), )* }
             }
         }
         impl<'cx> Session<'cx> {

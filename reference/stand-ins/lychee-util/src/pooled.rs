@@ -1,57 +1,21 @@
 //! Stand-in pool: by value, the order of creation kept. It carries the guard: whatever in the checker may not end reads a
 //! pooled value at each turn, or pools one.
 use crate::arena::Arena;
-use std::cell::Cell;
+use crate::map::Map;
 use std::cmp::Ordering;
-use std::collections::HashMap;
 use std::fmt::{self, Debug, Formatter};
 use std::hash::{Hash, Hasher};
 use std::ops::Deref;
 
-/// Thrown by the guard where a run takes too many steps or too much of the stack.
-pub struct Endless;
+#[cfg(feature = "observe")]
+use crate::guard::guard;
+#[cfg(feature = "observe")]
+pub use crate::guard::{Endless, arm_guard, disarm_guard, tighten_guard};
 
-thread_local! {
-    static STEPS: Cell<u64> = const { Cell::new(0) };
-    static STEP_LIMIT: Cell<u64> = const { Cell::new(u64::MAX) };
-    static STACK_LOW: Cell<usize> = const { Cell::new(0) };
-}
-
-/// Arms the guard on this thread: `steps` reads, `stack` bytes below the caller.
-pub fn arm_guard(steps: u64, stack: usize) {
-    let here = 0u8;
-    STEPS.set(0);
-    STEP_LIMIT.set(steps);
-    STACK_LOW.set((&raw const here as usize).saturating_sub(stack));
-}
-
-pub fn disarm_guard() {
-    STEP_LIMIT.set(u64::MAX);
-    STACK_LOW.set(0);
-}
-
-/// From here on at most `more` further reads (never raises the limit).
-pub fn tighten_guard(more: u64) {
-    if STEP_LIMIT.get() != u64::MAX {
-        STEP_LIMIT.set(STEP_LIMIT.get().min(STEPS.get() + more));
-    }
-}
-
-#[inline]
-fn guard() {
-    let n = STEPS.get() + 1;
-    STEPS.set(n);
-    let here = 0u8;
-    if n > STEP_LIMIT.get() || (&raw const here as usize) < STACK_LOW.get() {
-        trip();
-    }
-}
-
-#[cold]
-fn trip() -> ! {
-    disarm_guard();
-    std::panic::panic_any(Endless)
-}
+/// Without observers nothing is counted.
+#[cfg(not(feature = "observe"))]
+#[inline(always)]
+fn guard() {}
 
 pub struct Pooled<'a, T>(&'a T);
 
@@ -108,13 +72,13 @@ impl<T> Debug for Pooled<'_, T> {
 }
 
 pub struct Pool<'a, T> {
-    map: HashMap<&'a T, Pooled<'a, T>>,
+    map: Map<&'a T, Pooled<'a, T>>,
     order: Vec<Pooled<'a, T>>,
 }
 
 impl<'a, T: Hash + Eq> Pool<'a, T> {
     pub fn new() -> Self {
-        Pool { map: HashMap::new(), order: Vec::new() }
+        Pool { map: Map::default(), order: Vec::new() }
     }
 
     pub fn pool(&mut self, v: T, arena: &'a Arena) -> Pooled<'a, T> {

@@ -1,0 +1,260 @@
+//! The checker that owns its tables, and what a call gives.
+use crate::library::{self, ErrorRow};
+use crate::views::{self, Equation, Made, Node, TypingError, Var};
+use crate::Lengths;
+use std::ops::Deref;
+
+/// How many numbers the library tells of a call: answer, whether it has a place, place, the ten counts, the length of the text.
+pub const TOLD: usize = 14;
+
+/// The number of the first `type` line of a body, one more than that of the last built-in type.
+const FIRST_DECLARED: usize = 14;
+
+/// The tables that are lent for each call.
+#[derive(Clone, Debug)]
+pub(crate) struct Lent {
+    pub rows: Box<[u16]>,
+    pub cells: Box<[u16]>,
+    pub nodes: Box<[u16]>,
+    pub vars: Box<[u16]>,
+    pub types: Box<[u16]>,
+    pub errors: Box<[ErrorRow]>,
+    pub log: Box<[u16]>,
+    pub memory: Box<[u16]>,
+}
+
+/// A checker with tables of its own, which each call uses anew.
+#[derive(Clone, Debug)]
+pub struct Checker {
+    lent: Lent,
+    told: [usize; TOLD],
+}
+
+impl Checker {
+    /// A checker with tables of the required lengths and no log.
+    pub fn new() -> Self {
+        Self::with_lengths(Lengths::required())
+    }
+
+    /// A checker that also keeps the first so many equations of a body; 2,048 are all.
+    pub fn with_log(equations: usize) -> Self {
+        Self::with_lengths(Lengths { log: equations.saturating_mul(views::EQUATION), ..Lengths::required() })
+    }
+
+    /// A checker with tables of these lengths. With one below its required length every body is answered 1 or 2.
+    pub fn with_lengths(lengths: Lengths) -> Self {
+        let table = |n: usize| vec![0u16; n].into_boxed_slice();
+        let lent = Lent {
+            rows: table(lengths.rows),
+            cells: table(lengths.cells),
+            nodes: table(lengths.nodes),
+            vars: table(lengths.vars),
+            types: table(lengths.types),
+            errors: vec![ErrorRow::default(); lengths.errors].into_boxed_slice(),
+            log: table(lengths.log),
+            memory: table(lengths.memory),
+        };
+        Self { lent, told: [0; TOLD] }
+    }
+
+    /// The lengths of the tables.
+    pub fn lengths(&self) -> Lengths {
+        Lengths {
+            rows: self.lent.rows.len(),
+            cells: self.lent.cells.len(),
+            nodes: self.lent.nodes.len(),
+            vars: self.lent.vars.len(),
+            types: self.lent.types.len(),
+            errors: self.lent.errors.len(),
+            log: self.lent.log.len(),
+            memory: self.lent.memory.len(),
+        }
+    }
+
+    /// Types a body.
+    pub fn check(&mut self, body: &[u8]) -> Checked<'_> {
+        library::check(body, &mut self.lent, &mut self.told);
+        self.checked()
+    }
+
+    /// Types a body and writes its report into `out`. The bytes behind the text stay as they were; where the text has no room, the
+    /// answer is 9 and `out` is zero throughout.
+    pub fn report(&mut self, body: &[u8], out: &mut [u8]) -> Reported<'_> {
+        let answer = library::report(body, &mut self.lent, out, &mut self.told);
+        Reported { answer, checked: self.checked() }
+    }
+
+    fn checked(&self) -> Checked<'_> {
+        let l = &self.lent;
+        let tables = Tables {
+            rows: &l.rows,
+            cells: &l.cells,
+            nodes: &l.nodes,
+            vars: &l.vars,
+            types: &l.types,
+            errors: &l.errors,
+            log: &l.log,
+            memory: &l.memory,
+        };
+        Checked { told: &self.told, tables }
+    }
+}
+
+impl Default for Checker {
+    fn default() -> Self {
+        Self::new()
+    }
+}
+
+/// The tables cell by cell, as the library left them. After the answers 1 and 2 they are as before the call.
+#[derive(Clone, Copy, Debug, PartialEq, Eq)]
+pub struct Tables<'a> {
+    /// The lines of the file.
+    pub rows: &'a [u16],
+    /// The fields of the lines.
+    pub cells: &'a [u16],
+    /// The types of the nodes.
+    pub nodes: &'a [u16],
+    /// The variables.
+    pub vars: &'a [u16],
+    /// The made types, and their inputs.
+    pub types: &'a [u16],
+    /// The type errors.
+    pub errors: &'a [ErrorRow],
+    /// The equations.
+    pub log: &'a [u16],
+    /// The working memory: zero, unless the answer is 1 or 2.
+    pub memory: &'a [u16],
+}
+
+/// How much there is of each. All are 0 unless the answer is 0.
+#[derive(Clone, Copy, Debug, Default, PartialEq, Eq)]
+pub struct Counts {
+    /// `type` lines of the body.
+    pub types: usize,
+    /// `def` lines.
+    pub defs: usize,
+    /// `inst` lines.
+    pub insts: usize,
+    /// `bind` lines.
+    pub binds: usize,
+    /// `node` lines.
+    pub nodes: usize,
+    /// Fields of all lines.
+    pub fields: usize,
+    /// Types that typing made.
+    pub made: usize,
+    /// Variables.
+    pub vars: usize,
+    /// Type errors.
+    pub errors: usize,
+    /// Equations raised, those without room in the log too.
+    pub equations: usize,
+}
+
+/// What checking a body gave.
+#[derive(Clone, Copy, Debug)]
+pub struct Checked<'a> {
+    told: &'a [usize; TOLD],
+    tables: Tables<'a>,
+}
+
+impl<'a> Checked<'a> {
+    /// The answer of the check, a number of the module [`answer`](crate::answer) other than 9.
+    pub fn answer(&self) -> usize {
+        self.told[0]
+    }
+
+    /// The line, from 1, for the answers 3 to 6; the node for 10 to 13.
+    pub fn place(&self) -> Option<usize> {
+        (self.told[1] == 1).then_some(self.told[2])
+    }
+
+    /// The numbers as the library told them.
+    pub fn told(&self) -> &'a [usize; TOLD] {
+        self.told
+    }
+
+    /// The counts by name.
+    pub fn counts(&self) -> Counts {
+        let [_, _, _, types, defs, insts, binds, nodes, fields, made, vars, errors, equations, _] = *self.told;
+        Counts { types, defs, insts, binds, nodes, fields, made, vars, errors, equations }
+    }
+
+    /// The tables cell by cell.
+    pub fn tables(&self) -> Tables<'a> {
+        self.tables
+    }
+
+    /// The nodes of the body, in order.
+    pub fn nodes(&self) -> impl ExactSizeIterator<Item = Node> + DoubleEndedIterator + Clone + 'a {
+        let table = self.tables.nodes;
+        (0..self.counts().nodes).map(move |i| views::node(table, i))
+    }
+
+    /// The made types, first made first.
+    pub fn types(&self) -> impl ExactSizeIterator<Item = Made<'a>> + DoubleEndedIterator + Clone + 'a {
+        let table = self.tables.types;
+        (0..self.counts().made).map(move |i| views::made(table, i))
+    }
+
+    /// The number of the first made type.
+    pub fn first_made(&self) -> usize {
+        FIRST_DECLARED + self.counts().types
+    }
+
+    /// The made type of this number; none where the number is not that of a made type.
+    pub fn made(&self, number: u16) -> Option<Made<'a>> {
+        let i = usize::from(number).checked_sub(self.first_made())?;
+        (i < self.counts().made).then(|| views::made(self.tables.types, i))
+    }
+
+    /// The variables, in the order drawn.
+    pub fn vars(&self) -> impl ExactSizeIterator<Item = Var> + DoubleEndedIterator + Clone + 'a {
+        let table = self.tables.vars;
+        (0..self.counts().vars).map(move |i| views::var(table, i))
+    }
+
+    /// The type errors, in the order emitted.
+    pub fn errors(&self) -> impl ExactSizeIterator<Item = TypingError> + DoubleEndedIterator + Clone + 'a {
+        self.tables.errors[..self.counts().errors].iter().map(views::error)
+    }
+
+    /// The equations, in the order raised, as many as the log has whole.
+    pub fn equations(&self) -> impl ExactSizeIterator<Item = Equation> + DoubleEndedIterator + Clone + 'a {
+        let table = self.tables.log;
+        (0..self.counts().equations.min(table.len() / views::EQUATION)).map(move |i| views::equation(table, i))
+    }
+}
+
+/// What reporting a body gave: the answer of the report, and what was checked, also by dereference.
+#[derive(Clone, Copy, Debug)]
+pub struct Reported<'a> {
+    answer: usize,
+    checked: Checked<'a>,
+}
+
+impl<'a> Reported<'a> {
+    /// 9 where the output is too short for the text, else the answer of the check.
+    pub fn answer(&self) -> usize {
+        self.answer
+    }
+
+    /// How many bytes of the output are the text; none where it has no room.
+    pub fn length(&self) -> Option<usize> {
+        (self.answer != crate::answer::NO_ROOM).then_some(self.checked.told[TOLD - 1])
+    }
+
+    /// What was checked, with the answer of the check, also where that of the report is 9.
+    pub fn checked(&self) -> &Checked<'a> {
+        &self.checked
+    }
+}
+
+impl<'a> Deref for Reported<'a> {
+    type Target = Checked<'a>;
+
+    fn deref(&self) -> &Checked<'a> {
+        &self.checked
+    }
+}

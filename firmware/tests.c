@@ -1,0 +1,1143 @@
+/* Tests of the C interface.
+
+   usage: tests [COPIES]; COPIES is how many damaged copies of bodies are tried, 2,000 by default. The last line is
+   `N passed, M failed`; exits with 1 on a failure. Static slices stand between elements that must stay as they were. */
+#include "nunthila.h"
+
+#include <stdio.h>
+#include <stdlib.h>
+#include <string.h>
+
+/* ---- checks ---- */
+
+static unsigned long passed, failed;
+static char about[160]; /* what is tried */
+
+static void check(int good, const char *what) {
+    if (good) {
+        passed++;
+        return;
+    }
+    failed++;
+    if (failed <= 40)
+        printf("%s: %s\n", about, what);
+    if (failed == 41)
+        printf("further failures are counted only\n");
+}
+
+static void check_of(int good, const char *of, const char *what) {
+    char line[160];
+    if (good) {
+        passed++;
+        return;
+    }
+    snprintf(line, sizeof line, "%s: %s", of, what);
+    check(0, line);
+}
+
+/* ---- slices ---- */
+
+enum { ROWS, CELLS, NODES, VARS, TYPES, ERRORS, LOG, MEMORY, TABLES, OUT = TABLES, TOLD, SLICES };
+
+static const char *const slice_name[SLICES] = {"rows", "cells", "nodes", "vars", "types", "errors", "log", "memory", "out", "told"};
+static const size_t element[SLICES] = {2, 2, 2, 2, 2, sizeof(nunthila_error), 2, 2, 1, sizeof(size_t)};
+static const size_t required[TABLES] = {NUNTHILA_ROWS,  NUNTHILA_CELLS,  NUNTHILA_NODES, NUNTHILA_VARS,
+                                        NUNTHILA_TYPES, NUNTHILA_ERRORS, 0,              NUNTHILA_MEMORY};
+
+#define AROUND 64 /* elements before each slice, and at least so many behind it */
+#define LONGER 9  /* so many elements more than required are lent at most */
+#define OUT_MOST 131072
+
+/* A static room with AROUND elements, a slice, and the rest. */
+#define ROOM(type, name, length) static type name##_room[AROUND + (length) + LONGER + AROUND]
+
+ROOM(uint16_t, rows, NUNTHILA_ROWS);
+ROOM(uint16_t, cells, NUNTHILA_CELLS);
+ROOM(uint16_t, nodes, NUNTHILA_NODES);
+ROOM(uint16_t, vars, NUNTHILA_VARS);
+ROOM(uint16_t, types, NUNTHILA_TYPES);
+ROOM(nunthila_error, errors, NUNTHILA_ERRORS);
+ROOM(uint16_t, log, NUNTHILA_LOG);
+ROOM(uint16_t, memory, NUNTHILA_MEMORY);
+ROOM(uint8_t, out, OUT_MOST);
+ROOM(size_t, told, NUNTHILA_TOLD);
+
+static unsigned char *const room[SLICES] = {
+    (unsigned char *)rows_room,   (unsigned char *)cells_room, (unsigned char *)nodes_room,  (unsigned char *)vars_room,
+    (unsigned char *)types_room,  (unsigned char *)errors_room, (unsigned char *)log_room,   (unsigned char *)memory_room,
+    (unsigned char *)out_room,    (unsigned char *)told_room};
+static const size_t room_size[SLICES] = {sizeof rows_room,   sizeof cells_room,  sizeof nodes_room, sizeof vars_room,
+                                         sizeof types_room,  sizeof errors_room, sizeof log_room,   sizeof memory_room,
+                                         sizeof out_room,    sizeof told_room};
+
+static uint16_t *const rows = rows_room + AROUND;
+static uint16_t *const cells = cells_room + AROUND;
+static uint16_t *const nodes = nodes_room + AROUND;
+static uint16_t *const vars = vars_room + AROUND;
+static uint16_t *const types = types_room + AROUND;
+static nunthila_error *const errors = errors_room + AROUND;
+static uint16_t *const log_cells = log_room + AROUND;
+static uint16_t *const memory = memory_room + AROUND;
+static uint8_t *const out = out_room + AROUND;
+static size_t *const told = told_room + AROUND;
+
+/* The length of each slice in the next call. */
+static size_t length[SLICES];
+
+static void usual_lengths(void) {
+    memcpy(length, required, sizeof required);
+    length[LOG] = NUNTHILA_LOG;
+    length[OUT] = NUNTHILA_OUT;
+    length[TOLD] = NUNTHILA_TOLD;
+}
+
+/* Bytes that are not 0 and differ from place to place. A room is filled with a part of them, which before points to. */
+#define ALL_ROOMS                                                                                                          \
+    (sizeof rows_room + sizeof cells_room + sizeof nodes_room + sizeof vars_room + sizeof types_room + sizeof errors_room + \
+     sizeof log_room + sizeof memory_room + sizeof out_room + sizeof told_room)
+static unsigned char pattern[ALL_ROOMS + 4096];
+static const unsigned char *before[SLICES];
+
+static const unsigned char zeros[ALL_ROOMS];
+
+static void make_pattern(void) {
+    size_t i;
+    for (i = 0; i < sizeof pattern; i++)
+        pattern[i] = (unsigned char)((i * 37 + i / 256 * 11) | 1);
+}
+
+/* Fills every room; what it holds differs by the seed. */
+static void fill(unsigned seed) {
+    int s;
+    for (s = 0; s < SLICES; s++) {
+        before[s] = pattern + (seed * 1009 + (unsigned)s * 337) % 4096;
+        memcpy(room[s], before[s], room_size[s]);
+    }
+}
+
+static size_t slice_from(int s) {
+    return AROUND * element[s];
+}
+
+static size_t slice_to(int s) {
+    return slice_from(s) + length[s] * element[s];
+}
+
+static int unchanged(int s) {
+    return memcmp(room[s], before[s], room_size[s]) == 0;
+}
+
+static int unchanged_around(int s) {
+    size_t to = slice_to(s);
+    return memcmp(room[s], before[s], slice_from(s)) == 0 && memcmp(room[s] + to, before[s] + to, room_size[s] - to) == 0;
+}
+
+/* Whether the elements of a slice from one on, up to another, are 0. */
+static int zero(int s, size_t from, size_t to) {
+    return from >= to || memcmp(room[s] + slice_from(s) + from * element[s], zeros, (to - from) * element[s]) == 0;
+}
+
+/* ---- calls ---- */
+
+static uint8_t body[NUNTHILA_BYTES + 64];
+static uint8_t body_before[NUNTHILA_BYTES + 64];
+static size_t body_length;
+
+static void set_body(const void *bytes, size_t n) {
+    memmove(body, bytes, n);
+    body_length = n;
+}
+
+static void set_text(const char *text) {
+    set_body(text, strlen(text));
+}
+
+static void add_text(const char *text) {
+    memcpy(body + body_length, text, strlen(text));
+    body_length += strlen(text);
+}
+
+enum { CHECK, REPORT };
+
+static size_t call(int which) {
+    if (which == CHECK)
+        return nunthila_check(body, body_length, rows, length[ROWS], cells, length[CELLS], nodes, length[NODES], vars, length[VARS],
+                              types, length[TYPES], errors, length[ERRORS], log_cells, length[LOG], memory, length[MEMORY], told,
+                              length[TOLD]);
+    return nunthila_report(body, body_length, rows, length[ROWS], cells, length[CELLS], nodes, length[NODES], vars, length[VARS], types,
+                           length[TYPES], errors, length[ERRORS], log_cells, length[LOG], memory, length[MEMORY], out, length[OUT], told,
+                           length[TOLD]);
+}
+
+/* ---- what holds after every call ---- */
+
+/* The rows of a key from the used ones on. */
+static int rows_zero_behind(size_t first, size_t used, size_t most) {
+    return zero(ROWS, NUNTHILA_ROW_CELLS * (first + used), NUNTHILA_ROW_CELLS * (first + most));
+}
+
+static int counts_within_limits(void) {
+    return told[NUNTHILA_TOLD_TYPES] <= 512 && told[NUNTHILA_TOLD_DEFS] <= 256 && told[NUNTHILA_TOLD_INSTS] <= 64 &&
+           told[NUNTHILA_TOLD_BINDS] <= 64 && told[NUNTHILA_TOLD_NODES] >= 1 && told[NUNTHILA_TOLD_NODES] <= 1024 &&
+           told[NUNTHILA_TOLD_FIELDS] >= 2 && told[NUNTHILA_TOLD_FIELDS] <= NUNTHILA_CELLS / NUNTHILA_FIELD_CELLS &&
+           told[NUNTHILA_TOLD_MADE] <= 4096 && told[NUNTHILA_TOLD_VARS] <= 1024 && told[NUNTHILA_TOLD_ERRORS] <= 4096 && told[NUNTHILA_TOLD_EQUATIONS] >= 1 &&
+           told[NUNTHILA_TOLD_EQUATIONS] <= 2048;
+}
+
+static void judge_checked(void) {
+    size_t inputs = 0, top = NUNTHILA_TYPE_FILE + told[NUNTHILA_TOLD_TYPES] + told[NUNTHILA_TOLD_MADE];
+    size_t in_log = told[NUNTHILA_TOLD_EQUATIONS], i;
+    int good;
+
+    check(rows_zero_behind(NUNTHILA_FIRST_TYPE, told[NUNTHILA_TOLD_TYPES], 512) &&
+              rows_zero_behind(NUNTHILA_FIRST_DEF, told[NUNTHILA_TOLD_DEFS], 256) &&
+              rows_zero_behind(NUNTHILA_FIRST_INST, told[NUNTHILA_TOLD_INSTS], 64) &&
+              rows_zero_behind(NUNTHILA_FIRST_BIND, told[NUNTHILA_TOLD_BINDS], 64) &&
+              rows_zero_behind(NUNTHILA_FIRST_NODE, told[NUNTHILA_TOLD_NODES], 1024) && zero(ROWS, NUNTHILA_ROWS, length[ROWS]),
+          "rows: zero behind the used rows");
+    check(zero(CELLS, NUNTHILA_FIELD_CELLS * told[NUNTHILA_TOLD_FIELDS], length[CELLS]), "cells: zero behind the used rows");
+    check(zero(NODES, NUNTHILA_NODE_CELLS * told[NUNTHILA_TOLD_NODES], length[NODES]), "nodes: zero behind the used rows");
+    check(zero(VARS, NUNTHILA_VAR_CELLS * told[NUNTHILA_TOLD_VARS], length[VARS]), "vars: zero behind the used rows");
+    check(zero(ERRORS, told[NUNTHILA_TOLD_ERRORS], length[ERRORS]), "errors: zero behind the used rows");
+    if (in_log > length[LOG] / NUNTHILA_EQUATION_CELLS)
+        in_log = length[LOG] / NUNTHILA_EQUATION_CELLS;
+    check(zero(LOG, NUNTHILA_EQUATION_CELLS * in_log, length[LOG]), "log: zero behind the used rows");
+    check(zero(MEMORY, 0, length[MEMORY]), "memory: zero throughout");
+
+    good = rows[NUNTHILA_ROW_CELLS * NUNTHILA_FIRST_FN] == 29;
+    for (i = 0; i < told[NUNTHILA_TOLD_NODES]; i++) {
+        const uint16_t *n = rows + NUNTHILA_ROW_CELLS * (NUNTHILA_FIRST_NODE + i);
+        good = good && n[NUNTHILA_ROW_FORM] >= 7 && n[NUNTHILA_ROW_FORM] <= 28 && n[NUNTHILA_ROW_LEVELS] >= 1 &&
+               n[NUNTHILA_ROW_LEVELS] <= 64 &&
+               (size_t)n[NUNTHILA_ROW_FIELD] + n[NUNTHILA_ROW_FIELDS] <= told[NUNTHILA_TOLD_FIELDS] &&
+               n[NUNTHILA_ROW_USER] <= told[NUNTHILA_TOLD_FIELDS];
+    }
+    check(good, "rows: each node has a form, its levels, its fields and its user");
+
+    good = 1;
+    for (i = 0; i < told[NUNTHILA_TOLD_NODES]; i++) {
+        const uint16_t *n = nodes + NUNTHILA_NODE_CELLS * i;
+        good = good && n[NUNTHILA_NODE_HAS_RAW] <= 1 && n[NUNTHILA_NODE_HAS_FINAL] == n[NUNTHILA_NODE_HAS_RAW] &&
+               n[NUNTHILA_NODE_RAW] < top && n[NUNTHILA_NODE_FINAL] < top && n[NUNTHILA_NODE_EXTRA] <= NUNTHILA_EXTRA_METHOD;
+    }
+    check(good, "nodes: each has flags, types and a tag");
+
+    good = 1;
+    for (i = 0; i < told[NUNTHILA_TOLD_VARS]; i++) {
+        const uint16_t *v = vars + NUNTHILA_VAR_CELLS * i;
+        good = good && v[NUNTHILA_VAR_KIND] <= NUNTHILA_KIND_FLOAT && v[NUNTHILA_VAR_IS_BOUND] <= 1 && v[NUNTHILA_VAR_BOUND] < top &&
+               v[NUNTHILA_VAR_HAS_ORIGIN] <= 1 && v[NUNTHILA_VAR_ORIGIN] < told[NUNTHILA_TOLD_NODES] && v[NUNTHILA_VAR_MARKED] <= 1;
+    }
+    check(good, "vars: each has a kind, flags, a type and a node");
+
+    good = 1;
+    for (i = 0; i < told[NUNTHILA_TOLD_MADE]; i++) {
+        const uint16_t *t = types + NUNTHILA_MADE_CELLS * i;
+        uint16_t h = t[NUNTHILA_MADE_HEAD];
+        good = good && t[NUNTHILA_MADE_FIRST] == inputs && (h == NUNTHILA_HEAD_LAMBDA || t[NUNTHILA_MADE_INPUTS] == 0) &&
+               (h == NUNTHILA_HEAD_INST || h == NUNTHILA_HEAD_FN || h == NUNTHILA_HEAD_ARRAY || h == NUNTHILA_HEAD_VAR ||
+                h == NUNTHILA_HEAD_LAMBDA || h == NUNTHILA_HEAD_REF);
+        inputs += t[NUNTHILA_MADE_INPUTS];
+    }
+    check(good, "types: each has a head and its inputs behind those before it");
+    good = NUNTHILA_INPUTS_FROM + inputs <= length[TYPES];
+    check(good && zero(TYPES, NUNTHILA_MADE_CELLS * told[NUNTHILA_TOLD_MADE], NUNTHILA_INPUTS_FROM) &&
+              zero(TYPES, NUNTHILA_INPUTS_FROM + inputs, length[TYPES]),
+          "types: zero behind the used rows and inputs");
+
+    good = 1;
+    for (i = 0; i < told[NUNTHILA_TOLD_ERRORS]; i++)
+        good = good && errors[i].kind <= NUNTHILA_INFER_FAIL && errors[i].cause <= NUNTHILA_CAUSE_KIND_ORDER &&
+               errors[i].span <= NUNTHILA_SPAN_SIGNATURE && errors[i].between <= 1;
+    check(good, "errors: each has a kind, a cause and a span");
+
+    good = 1;
+    for (i = 0; i < in_log; i++) {
+        const uint16_t *e = log_cells + NUNTHILA_EQUATION_CELLS * i;
+        good = good && e[NUNTHILA_EQUATION_EXPECTED] < top && e[NUNTHILA_EQUATION_GOT] < top &&
+               e[NUNTHILA_EQUATION_OUTCOME] <= NUNTHILA_CAUSE_KIND_ORDER;
+    }
+    check(good, "log: each equation has two types and an outcome");
+}
+
+/* The report of the tables, as text. */
+static char rebuilt[OUT_MOST];
+static size_t rebuilt_length;
+
+static void put(const char *text) {
+    size_t n = strlen(text);
+    if (rebuilt_length + n < sizeof rebuilt) {
+        memcpy(rebuilt + rebuilt_length, text, n);
+        rebuilt_length += n;
+    }
+}
+
+static void put_number(const char *text, size_t number) {
+    char digits[24];
+    put(text);
+    sprintf(digits, "%lu", (unsigned long)number);
+    put(digits);
+}
+
+static void put_option(const char *text, uint16_t flag, uint16_t number) {
+    if (flag == 1) {
+        put_number(text, number);
+    } else {
+        put(text);
+        put("-");
+    }
+}
+
+static void put_made(const uint16_t *t) {
+    size_t k;
+    switch (t[NUNTHILA_MADE_HEAD]) {
+    case NUNTHILA_HEAD_INST: put_number("type=inst,", t[NUNTHILA_MADE_NUMBER]); break;
+    case NUNTHILA_HEAD_FN: put_number("type=fn,", t[NUNTHILA_MADE_NUMBER]); break;
+    case NUNTHILA_HEAD_ARRAY: put_number("type=array,", t[NUNTHILA_MADE_NUMBER]); break;
+    case NUNTHILA_HEAD_VAR: put_number("type=var,", t[NUNTHILA_MADE_NUMBER]); break;
+    case NUNTHILA_HEAD_REF: put_number("type=ref,", t[NUNTHILA_MADE_NUMBER]); break;
+    case NUNTHILA_HEAD_LAMBDA:
+        put_number("type=lambda,", t[NUNTHILA_MADE_NUMBER]);
+        put_number(",", t[NUNTHILA_MADE_OUTPUT]);
+        for (k = 0; k < t[NUNTHILA_MADE_INPUTS] && NUNTHILA_INPUTS_FROM + t[NUNTHILA_MADE_FIRST] + k < length[TYPES]; k++)
+            put_number(",", types[NUNTHILA_INPUTS_FROM + t[NUNTHILA_MADE_FIRST] + k]);
+        break;
+    default: put("no head"); break;
+    }
+    put("\n");
+}
+
+static void put_var(const uint16_t *v) {
+    static const char *const kinds[] = {"var=any", "var=int", "var=float"};
+    put(v[NUNTHILA_VAR_KIND] <= NUNTHILA_KIND_FLOAT ? kinds[v[NUNTHILA_VAR_KIND]] : "no kind");
+    put_option(",", v[NUNTHILA_VAR_IS_BOUND], v[NUNTHILA_VAR_BOUND]);
+    put_option(",", v[NUNTHILA_VAR_HAS_ORIGIN], v[NUNTHILA_VAR_ORIGIN]);
+    put("\n");
+}
+
+static void put_node(const uint16_t *n) {
+    put_option("node=", n[NUNTHILA_NODE_HAS_RAW], n[NUNTHILA_NODE_RAW]);
+    put_option(",", n[NUNTHILA_NODE_HAS_FINAL], n[NUNTHILA_NODE_FINAL]);
+    switch (n[NUNTHILA_NODE_EXTRA]) {
+    case NUNTHILA_EXTRA_NONE: put(",-"); break;
+    case NUNTHILA_EXTRA_LOCAL: put_number(",l", n[NUNTHILA_NODE_NUMBER]); break;
+    case NUNTHILA_EXTRA_FN: put_number(",f", n[NUNTHILA_NODE_NUMBER]); break;
+    case NUNTHILA_EXTRA_CONSTRUCTOR: put_number(",c", n[NUNTHILA_NODE_NUMBER]); break;
+    case NUNTHILA_EXTRA_INST: put_number(",i", n[NUNTHILA_NODE_NUMBER]); break;
+    case NUNTHILA_EXTRA_ERROR: put(",e"); break;
+    case NUNTHILA_EXTRA_OTHER: put(",o"); break;
+    case NUNTHILA_EXTRA_LET:
+    case NUNTHILA_EXTRA_METHOD: put_number(",", n[NUNTHILA_NODE_NUMBER]); break;
+    default: put("no tag"); break;
+    }
+    put("\n");
+}
+
+static void put_error(const nunthila_error *e) {
+    static const size_t values[] = {2, 1, 1, 2, 1, 3, 2, 2, 1, 2, 0};
+    size_t n = e->kind <= NUNTHILA_INFER_FAIL ? values[e->kind] : 0;
+    put_number("error=", e->kind);
+    put_number(",", e->cause);
+    switch (e->span) {
+    case NUNTHILA_SPAN_NODE: put_number(",", e->at); break;
+    case NUNTHILA_SPAN_BIND_ITEM: put_number(",d", e->at); break;
+    case NUNTHILA_SPAN_SIGNATURE: put(",sig"); break;
+    default: put(",no span"); break;
+    }
+    put_option(",", e->between, e->second);
+    if (n > 0)
+        put_number(",", e->a);
+    if (n > 1)
+        put_number(",", e->b);
+    if (n > 2)
+        put_number(",", e->c);
+    put("\n");
+}
+
+/* The counts of told have to be within the limits. */
+static void rebuild(void) {
+    size_t i;
+    rebuilt_length = 0;
+    put_number("answer=", told[NUNTHILA_TOLD_ANSWER]);
+    if (told[NUNTHILA_TOLD_HAS_PLACE] == 1)
+        put_number(",", told[NUNTHILA_TOLD_PLACE]);
+    else
+        put(",-");
+    put("\n");
+    if (told[NUNTHILA_TOLD_ANSWER] != NUNTHILA_CHECKED)
+        return;
+    put_number("types=", told[NUNTHILA_TOLD_MADE]);
+    put("\n");
+    for (i = 0; i < told[NUNTHILA_TOLD_MADE]; i++)
+        put_made(types + NUNTHILA_MADE_CELLS * i);
+    put_number("vars=", told[NUNTHILA_TOLD_VARS]);
+    put("\n");
+    for (i = 0; i < told[NUNTHILA_TOLD_VARS]; i++)
+        put_var(vars + NUNTHILA_VAR_CELLS * i);
+    for (i = 0; i < told[NUNTHILA_TOLD_NODES]; i++)
+        put_node(nodes + NUNTHILA_NODE_CELLS * i);
+    put_number("errors=", told[NUNTHILA_TOLD_ERRORS]);
+    put("\n");
+    for (i = 0; i < told[NUNTHILA_TOLD_ERRORS]; i++)
+        put_error(errors + i);
+}
+
+static void judge_text(size_t answer) {
+    size_t n = told[NUNTHILA_TOLD_LENGTH];
+
+    if (answer == NUNTHILA_NO_ROOM) {
+        check(zero(OUT, 0, length[OUT]), "out: zero throughout on 9");
+        check(n == 0, "told: no text on 9");
+        return;
+    }
+    check(n <= length[OUT], "the text is within the output");
+    if (n > length[OUT])
+        return;
+    check(memcmp(out + n, before[OUT] + slice_from(OUT) + n, length[OUT] - n) == 0, "out: the bytes behind the text are as they were");
+    rebuild();
+    check(n == rebuilt_length && memcmp(out, rebuilt, n) == 0, "the text is that of the tables");
+}
+
+/* Judges a call by what it answered and told; told has its whole length. */
+static void judge(int which, size_t answer) {
+    size_t a = told[NUNTHILA_TOLD_ANSWER], i;
+    int of_line = a >= 3 && a <= 6, of_node = a >= 10 && a <= 13, s;
+
+    check(a <= 2 || of_line || of_node, "the answer of the check is one of 0 to 6, 10 to 13");
+    check(answer == a || (which == REPORT && answer == NUNTHILA_NO_ROOM), "what is returned is the answer of the check, or 9 of report");
+    check(told[NUNTHILA_TOLD_HAS_PLACE] == (size_t)(of_line || of_node), "the answer has a place for 3 to 6 and 10 to 13");
+    if (of_line)
+        check(told[NUNTHILA_TOLD_PLACE] >= 1 && told[NUNTHILA_TOLD_PLACE] <= body_length + 1, "the place is a line");
+    else if (of_node)
+        check(told[NUNTHILA_TOLD_PLACE] < 1024, "the place is a node");
+    else
+        check(told[NUNTHILA_TOLD_PLACE] == 0, "the place is 0 where there is none");
+    if (a == NUNTHILA_CHECKED) {
+        check(counts_within_limits(), "the counts are within the limits");
+        if (!counts_within_limits())
+            return; /* the tables cannot be read */
+        judge_checked();
+    } else {
+        int none = 1;
+        for (i = NUNTHILA_TOLD_TYPES; i <= NUNTHILA_TOLD_EQUATIONS; i++)
+            none = none && told[i] == 0;
+        check(none, "the counts are 0");
+        for (s = 0; s < TABLES; s++) {
+            if (a == NUNTHILA_TOO_LONG || a == NUNTHILA_SHORT_TABLE)
+                check_of(unchanged(s), slice_name[s], "as it was");
+            else
+                check_of(zero(s, 0, length[s]), slice_name[s], "zero throughout");
+        }
+    }
+    if (which == REPORT)
+        judge_text(answer);
+    else
+        check(told[NUNTHILA_TOLD_LENGTH] == 0, "told: no text of check");
+}
+
+/* Calls with the lengths that are set, in rooms filled by the seed, and judges what must hold. */
+static size_t run(int which, unsigned seed) {
+    size_t answer;
+    int s;
+
+    fill(seed);
+    memcpy(body_before, body, sizeof body);
+    answer = call(which);
+    for (s = 0; s < SLICES; s++)
+        check_of(unchanged_around(s), slice_name[s], "the elements around the slice are as they were");
+    check(memcmp(body, body_before, sizeof body) == 0, "the body is as it was");
+    if (length[TOLD] >= NUNTHILA_TOLD)
+        judge(which, answer);
+    return answer;
+}
+
+/* The slices of a call, to be compared with those of another one. */
+static unsigned char kept_rooms[ALL_ROOMS];
+static unsigned char *kept[SLICES];
+static size_t kept_length[SLICES];
+
+static void keep(void) {
+    unsigned char *at = kept_rooms;
+    int s;
+    for (s = 0; s < SLICES; s++) {
+        kept[s] = at;
+        kept_length[s] = length[s];
+        memcpy(kept[s], room[s] + slice_from(s), length[s] * element[s]);
+        at += room_size[s];
+    }
+}
+
+/* Whether the elements of a slice up to one are those that were kept. */
+static int as_kept(int s, size_t to) {
+    return to <= kept_length[s] && to <= length[s] && memcmp(kept[s], room[s] + slice_from(s), to * element[s]) == 0;
+}
+
+static int tables_as_kept(void) {
+    int s, good = 1;
+    for (s = 0; s < TABLES; s++)
+        good = good && as_kept(s, length[s]);
+    return good;
+}
+
+/* Both functions on the body that is set, with usual lengths, in rooms of different contents: answer, place and text, or no text where
+   it is null. */
+static void expect(const char *name, size_t answer, size_t place, const char *text) {
+    size_t got;
+
+    usual_lengths();
+    snprintf(about, sizeof about, "check %s", name);
+    got = run(CHECK, 1);
+    check(got == answer, "answer");
+    check(told[NUNTHILA_TOLD_PLACE] == place, "place");
+    keep();
+    snprintf(about, sizeof about, "report %s", name);
+    got = run(REPORT, 2);
+    check(got == answer, "answer");
+    check(told[NUNTHILA_TOLD_PLACE] == place, "place");
+    if (answer != NUNTHILA_TOO_LONG)
+        check(tables_as_kept(), "the tables are those of check");
+    check(as_kept(TOLD, NUNTHILA_TOLD_LENGTH), "what is told is as of check, but for the length");
+    if (text) {
+        check(told[NUNTHILA_TOLD_LENGTH] == strlen(text), "length of the text");
+        check(memcmp(out, text, strlen(text)) == 0, "text");
+    }
+}
+
+/* ---- bodies ---- */
+
+static const char worked[] = "node=param,8\nnode=int\nnode=let,-,1\nnode=path,l0,1,7:l0\nnode=path,l2,1,9:l2\nnode=bin,a,3,4\n"
+                             "node=block,5,2\nfn=8,6,0\n";
+static const char worked_text[] = "answer=0,-\ntypes=1\ntype=var,0\nvars=1\nvar=int,8,-\nnode=8,8,-\nnode=14,8,-\nnode=14,8,14\n"
+                                  "node=8,8,l0\nnode=14,8,l2\nnode=8,8,-\nnode=8,8,-\nerrors=0\n";
+
+/* A lambda with two inputs, a negated literal, two errors. */
+static const char lambda[] = "node=param,8\nnode=param,-\nnode=path,l0,1,1:l0\nnode=lambda,-,2,0,1\nnode=bool\nnode=un,n,4\nnode=int\n"
+                             "node=un,n,6\nnode=block,-,3,5,7\nfn=0,8\n";
+static const char lambda_text[] =
+    "answer=0,-\ntypes=4\ntype=var,0\ntype=var,1\ntype=lambda,3,15,8,14\ntype=var,2\nvars=3\nvar=any,-,1\nvar=any,8,3\nvar=int,-,-\n"
+    "node=8,8,-\nnode=14,12,-\nnode=8,8,l0\nnode=16,16,-\nnode=1,1,-\nnode=12,12,-\nnode=17,9,-\nnode=17,9,-\nnode=0,0,-\nerrors=2\n"
+    "error=2,0,4,-,1\nerror=10,0,1,-\n";
+
+/* Instances, functions, methods, arrays and references. */
+static const char keys[] =
+    "type=inst,0\ntype=array,10\ndef=10,10\ndef=14,10,10\ndef=10,14,8\ninst=1:10,2:15\nbind=14,5:2,6:0\nnode=param,14\n"
+    "node=path,c1,1,3:c1\nnode=float\nnode=float\nnode=call,1,2,3\nnode=let,-,4\nnode=path,l5,1,4:l5\nnode=int\n"
+    "node=mcall,6,5,7\nnode=path,l0,1,9:l0\nnode=field,9,2\nnode=int\nnode=index,10,11\nnode=bin,a,8,12\nnode=path,l0,1,9:l0\n"
+    "node=un,r,14\nnode=block,13,5,15\nfn=10,16,0\n";
+static const char keys_text[] =
+    "answer=0,-\ntypes=6\ntype=fn,1\ntype=var,0\ntype=var,1\ntype=ref,14\ntype=var,2\ntype=var,3\nvars=4\nvar=float,10,-\n"
+    "var=float,10,-\nvar=int,8,-\nvar=int,5,-\nnode=14,14,-\nnode=16,16,c1\nnode=17,10,-\nnode=18,10,-\nnode=14,14,-\n"
+    "node=14,14,14\nnode=14,14,l5\nnode=20,8,-\nnode=10,10,2\nnode=14,14,l0\nnode=15,15,-\nnode=21,5,-\nnode=10,10,-\n"
+    "node=10,10,-\nnode=14,14,l0\nnode=19,19,-\nnode=10,10,-\nerrors=0\n";
+
+/* Methods that are found, not there, of a wrong amount, of a wrong argument. */
+static const char methods[] =
+    "def=8,8\ndef=1,8,1\ndef=0\nbind=8,5:0,6:1\nbind=8,5:2,7:2\nbind=1\nnode=param,8\nnode=path,l0,1,1:l0\nnode=mcall,1,5\n"
+    "node=path,l0,1,1:l0\nnode=int\nnode=mcall,3,6,4\nnode=path,l0,1,1:l0\nnode=mcall,6,7\nnode=bool\nnode=int\n"
+    "node=mcall,8,5,9\nnode=int\nnode=mcall,10,5,11\nnode=block,2,5,7,12\nfn=8,13,0\n";
+static const char methods_text[] =
+    "answer=0,-\ntypes=1\ntype=var,0\nvars=1\nvar=int,-,-\nnode=8,8,-\nnode=8,8,l0\nnode=8,8,0\nnode=8,8,l0\nnode=14,9,-\n"
+    "node=1,1,1\nnode=8,8,l0\nnode=0,0,2\nnode=1,1,-\nnode=-,-,-\nnode=12,12,-\nnode=-,-,-\nnode=12,12,-\nnode=8,8,-\n"
+    "errors=3\nerror=5,1,d1,-,1,14,1\nerror=6,0,d2,-,1,0\nerror=9,0,8,-,1,5\n";
+
+/* Two equations that fail, by cause 1 and 2. */
+static const char quarrel[] =
+    "node=param,10\nnode=param,3\nnode=path,l0,1,1:l0\nnode=path,l1,1,2:l1\nnode=assign,2,3\nnode=param,-\nnode=int\n"
+    "node=path,l5,1,3:l5\nnode=bin,a,6,7\nnode=lambda,-,8,5\nnode=let,-,9\nnode=path,l10,1,4:l10\nnode=path,l1,1,2:l1\n"
+    "node=call,11,12\nnode=path,l0,1,1:l0\nnode=block,14,4,10,13\nfn=10,15,0,1\n";
+static const char quarrel_text[] =
+    "answer=0,-\ntypes=4\ntype=var,0\ntype=var,1\ntype=var,2\ntype=lambda,9,15,14\nvars=3\nvar=any,3,5\nvar=any,12,9\n"
+    "var=int,-,-\nnode=10,10,-\nnode=3,3,-\nnode=10,10,l0\nnode=3,3,l1\nnode=0,0,-\nnode=14,3,-\nnode=16,9,-\nnode=14,3,l5\n"
+    "node=12,12,-\nnode=17,17,-\nnode=17,17,17\nnode=17,17,l10\nnode=3,3,l1\nnode=15,12,-\nnode=10,10,l0\nnode=10,10,-\n"
+    "errors=2\nerror=0,1,2,3,10,3\nerror=3,2,6,7,16,14\n";
+
+/* Refused 12 and 13. */
+static const char inside[] = "node=let,-,-\nnode=path,l0,1,1:l0\nnode=path,l0,1,1:l0\nnode=list,2\nnode=assign,1,3\n"
+                             "node=block,-,0,4\nfn=0,5\n";
+static const char negated[] = "node=int\nnode=un,n,0\nnode=let,5,1\nnode=block,-,2\nfn=0,3\n";
+
+static const char short_body[] = "node=bool\nfn=1,0\n";
+static const char short_text[] = "answer=0,-\ntypes=0\nvars=0\nnode=1,1,-\nerrors=0\n";
+
+struct known {
+    const char *name;
+    const char *body;
+    size_t answer, place;
+    const char *text;
+};
+
+static const struct known known[] = {
+    {"worked", worked, 0, 0, worked_text},
+    {"lambda", lambda, 0, 0, lambda_text},
+    {"keys", keys, 0, 0, keys_text},
+    {"methods", methods, 0, 0, methods_text},
+    {"quarrel", quarrel, 0, 0, quarrel_text},
+    {"result", "node=bool\nfn=8,0\n", 0, 0, "answer=0,-\ntypes=0\nvars=0\nnode=1,1,-\nerrors=1\nerror=0,1,sig,-,8,1\n"},
+    {"short", short_body, 0, 0, short_text},
+    {"empty", "", 3, 1, "answer=3,1\n"},
+    {"line feed", "\n", 3, 1, "answer=3,1\n"},
+    {"no fn", "node=bool\n", 3, 2, "answer=3,2\n"},
+    {"no last line feed", "node=bool\nfn=1,0", 3, 2, "answer=3,2\n"},
+    {"line behind fn", "node=bool\nfn=1,0\nfn=1,0\n", 3, 3, "answer=3,3\n"},
+    {"carriage return", "node=bool\r\nfn=1,0\r\n", 3, 1, "answer=3,1\n"},
+    {"leading zero", "node=bool\nfn=01,0\n", 3, 2, "answer=3,2\n"},
+    {"number 65,536", "def=65536\nnode=bool\nfn=1,0\n", 3, 1, "answer=3,1\n"},
+    {"order", "node=bool\ntype=array,8\nfn=1,0\n", 3, 2, "answer=3,2\n"},
+    {"byte 255", "node=bool\nfn=1,0\n\xff", 3, 3, "answer=3,3\n"},
+    {"written diverges", "type=array,13\nnode=bool\nfn=1,0\n", 5, 1, "answer=5,1\n"},
+    {"no such node", "node=bool\nnode=un,t,7\nfn=1,1\n", 5, 2, "answer=5,2\n"},
+    {"str", "node=str\nfn=0,0\n", 10, 0, "answer=10,0\n"},
+    {"local not typed", "node=let,-,-\nnode=path,l0,1,1:l0\nnode=block,1\nfn=0,2\n", 11, 1, "answer=11,1\n"},
+    {"inside itself", inside, 12, 4, "answer=12,4\n"},
+    {"negated", negated, 13, 2, "answer=13,2\n"},
+};
+enum { KNOWN = sizeof known / sizeof known[0] };
+
+static void known_bodies(void) {
+    size_t i;
+    for (i = 0; i < KNOWN; i++) {
+        set_text(known[i].body);
+        expect(known[i].name, known[i].answer, known[i].place, known[i].text);
+    }
+    set_body("node=bool\0\nfn=1,0\n", 18);
+    expect("byte 0", 3, 1, "answer=3,1\n");
+}
+
+static void types_of(unsigned n) {
+    char line[40];
+    unsigned i;
+    set_text("");
+    for (i = 0; i < n; i++) {
+        sprintf(line, "type=fun,%u,8\n", i);
+        add_text(line);
+    }
+    add_text(short_body);
+}
+
+static void levels_of(unsigned n) {
+    char line[40];
+    unsigned i;
+    set_text("node=bool\n");
+    for (i = 0; i + 1 < n; i++) {
+        sprintf(line, "node=un,t,%u\n", i);
+        add_text(line);
+    }
+    sprintf(line, "fn=1,%u\n", n - 1);
+    add_text(line);
+}
+
+static void nodes_of(unsigned n) {
+    char line[40];
+    unsigned i;
+    set_text("");
+    for (i = 0; i < n; i++)
+        add_text("node=bool\n");
+    sprintf(line, "fn=1,%u\n", n - 1);
+    add_text(line);
+}
+
+static void limits(void) {
+    types_of(512);
+    expect("512 types", 0, 0, short_text);
+    check(told[NUNTHILA_TOLD_TYPES] == 512, "told: types");
+    types_of(513);
+    expect("513 types", 4, 513, "answer=4,513\n");
+    levels_of(64);
+    expect("64 levels", 0, 0, NULL);
+    check(told[NUNTHILA_TOLD_NODES] == 64, "told: nodes");
+    levels_of(65);
+    expect("65 levels", 6, 66, "answer=6,66\n");
+    nodes_of(1024);
+    expect("1,024 nodes", 0, 0, NULL);
+    check(told[NUNTHILA_TOLD_NODES] == 1024, "told: nodes");
+    nodes_of(1025);
+    expect("1,025 nodes", 4, 1025, "answer=4,1025\n");
+}
+
+/* A body of 65,536 bytes: 512 types with 16 inputs, 256 defs with 16, 64 insts with 30 fields, a bind with 7 methods. */
+static void full_body(void) {
+    char line[40];
+    size_t i, k;
+    set_text("");
+    for (i = 0; i < 512; i++) {
+        sprintf(line, "type=fun,%u,11", 10000 + (unsigned)i);
+        add_text(line);
+        for (k = 0; k < 16; k++)
+            add_text(",11");
+        add_text("\n");
+    }
+    for (i = 0; i < 256; i++) {
+        add_text("def=11");
+        for (k = 0; k < 16; k++)
+            add_text(",11");
+        add_text("\n");
+    }
+    for (i = 0; i < 64; i++) {
+        add_text("inst=65535:11");
+        for (k = 0; k < 29; k++)
+            add_text(",65535:11");
+        add_text("\n");
+    }
+    add_text("bind=11,100:0,100:0,100:0,100:0,100:0,1:0,10:0");
+    add_text("\n");
+    add_text(short_body);
+}
+
+static void sizes(void) {
+    size_t i;
+
+    strcpy(about, "full body");
+    full_body();
+    check(body_length == NUNTHILA_BYTES, "the body of the test has 65,536 bytes");
+    expect("65,536 bytes, accepted", 0, 0, short_text);
+    check(told[NUNTHILA_TOLD_TYPES] == 512 && told[NUNTHILA_TOLD_DEFS] == 256 && told[NUNTHILA_TOLD_INSTS] == 64, "told: counts");
+    /* The same with one digit more. */
+    body_length -= strlen(short_body) + 1;
+    add_text("0\n");
+    add_text(short_body);
+    check(body_length == NUNTHILA_BYTES + 1, "the body of the test has 65,537 bytes");
+    expect("65,537 bytes", 1, 0, "answer=1,-\n");
+
+    for (i = 0; i < 3; i++) {
+        static const char fill_byte[3] = {'a', '\n', '\0'};
+        memset(body, fill_byte[i], NUNTHILA_BYTES + 1);
+        body_length = NUNTHILA_BYTES;
+        expect("65,536 equal bytes", 3, 1, "answer=3,1\n");
+        body_length = NUNTHILA_BYTES + 1;
+        expect("65,537 equal bytes", 1, 0, "answer=1,-\n");
+    }
+}
+
+/* ---- cells by hand ---- */
+
+static int same(const uint16_t *got, const uint16_t *wanted, size_t n) {
+    return memcmp(got, wanted, n * sizeof *got) == 0;
+}
+
+static void cells_by_hand(void) {
+    static const uint16_t want_rows[9 * 5] = {26, 0, 1, 1, 8,  26, 1, 1, 1, 9,  28, 2,  3, 1, 7,  27, 5,  4, 2, 15, 7,  9, 0,
+                                              1,  11, 12, 9, 2, 2, 16, 8, 11, 0, 1, 13, 12, 11, 2, 2, 17, 24, 13, 4, 3, 19};
+    static const uint16_t want_fn[5] = {29, 17, 2, 3, 0};
+    static const uint16_t want_cells[19 * 3] = {0, 1, 8, 0, 0, 0, 0, 1, 0, 0, 1, 1, 1, 1, 0, 0, 0, 0, 0, 1, 2, 0, 1, 0, 0, 1, 1, 0, 1,
+                                                2, 0, 1, 4, 0, 1, 2, 0, 1, 6, 0, 0, 0, 0, 1, 3, 0, 1, 5, 0, 1, 7, 0, 1, 0, 0, 1, 8};
+    static const uint16_t want_nodes[9 * 6] = {1, 8, 0, 0, 1, 8,  1, 14, 0, 0, 1, 12, 1, 8, 1, 0, 1, 8,  1, 16, 0, 0, 1, 16, 1, 1, 0,
+                                               0, 1, 1, 1, 12, 0, 0, 1, 12, 1, 17, 0, 0, 1, 9, 1, 17, 0, 0, 1, 9, 1, 0, 0, 0, 1, 0};
+    static const uint16_t want_vars[3 * 6] = {0, 0, 0, 1, 1, 0, 0, 1, 8, 1, 3, 0, 1, 0, 0, 0, 0, 1};
+    static const uint16_t want_types[4 * 5] = {12, 0, 0, 0, 0, 12, 1, 0, 0, 0, 13, 3, 15, 0, 2, 12, 2, 0, 2, 0};
+    static const uint16_t want_inputs[2] = {8, 14};
+    static const nunthila_error want_errors[2] = {{2, 0, 0, 4, 0, 0, 1, 0, 0}, {10, 0, 0, 1, 0, 0, 0, 0, 0}};
+    static const uint16_t want_log[2 * 3] = {15, 8, 0, 0, 0, 0};
+    static const size_t want_told[NUNTHILA_TOLD] = {0, 0, 0, 0, 0, 0, 0, 9, 19, 4, 3, 2, 2, 0};
+    static const size_t want_keys[NUNTHILA_TOLD] = {0, 0, 0, 2, 3, 1, 1, 17, 51, 6, 4, 0, 7, 0};
+    static const uint16_t want_quarrel[5 * 3] = {10, 3, 1, 16, 14, 2, 15, 12, 0, 14, 3, 0, 10, 10, 0};
+    int which;
+
+    set_text(lambda);
+    usual_lengths();
+    for (which = CHECK; which <= REPORT; which++) {
+        strcpy(about, which == CHECK ? "cells by hand, check" : "cells by hand, report");
+        run(which, 3);
+        check(same(rows + NUNTHILA_ROW_CELLS * NUNTHILA_FIRST_NODE, want_rows, 9 * 5), "rows of the nodes");
+        check(same(rows + NUNTHILA_ROW_CELLS * NUNTHILA_FIRST_FN, want_fn, 5), "row of fn");
+        check(same(cells, want_cells, 19 * 3), "cells");
+        check(same(nodes, want_nodes, 9 * 6), "nodes");
+        check(same(vars, want_vars, 3 * 6), "vars");
+        check(same(types, want_types, 4 * 5), "types");
+        check(same(types + NUNTHILA_INPUTS_FROM, want_inputs, 2), "inputs");
+        check(memcmp(errors, want_errors, sizeof want_errors) == 0, "errors");
+        check(same(log_cells, want_log, 2 * 3), "log");
+        check(memcmp(told, want_told, NUNTHILA_TOLD_LENGTH * sizeof *told) == 0, "told");
+    }
+    check(told[NUNTHILA_TOLD_LENGTH] == strlen(lambda_text), "told: length");
+
+    strcpy(about, "cells by hand, keys");
+    set_text(keys);
+    run(CHECK, 3);
+    check(nodes[NUNTHILA_NODE_CELLS * 5 + NUNTHILA_NODE_EXTRA] == NUNTHILA_EXTRA_LET, "tag of a let");
+    check(nodes[NUNTHILA_NODE_CELLS * 8 + NUNTHILA_NODE_EXTRA] == NUNTHILA_EXTRA_METHOD, "tag of a method call");
+    check(memcmp(told, want_keys, sizeof want_keys) == 0, "told");
+
+    strcpy(about, "cells by hand, quarrel");
+    set_text(quarrel);
+    run(CHECK, 3);
+    check(told[NUNTHILA_TOLD_EQUATIONS] == 5 && same(log_cells, want_quarrel, 5 * 3), "log");
+}
+
+/* ---- lengths of the tables ---- */
+
+static void short_tables(void) {
+    int s, which;
+    size_t i;
+
+    for (s = 0; s < TABLES; s++) {
+        size_t lengths[3];
+        if (s == LOG)
+            continue; /* no length of the log is too short */
+        lengths[0] = required[s] - 1;
+        lengths[1] = 1;
+        lengths[2] = 0;
+        for (i = 0; i < 3; i++) {
+            for (which = CHECK; which <= REPORT; which++) {
+                size_t answer;
+                usual_lengths();
+                length[s] = lengths[i];
+                snprintf(about, sizeof about, "%s of %lu elements, %s", slice_name[s], (unsigned long)lengths[i],
+                         which == CHECK ? "check" : "report");
+                set_text(worked);
+                answer = run(which, 4);
+                check(answer == 2, "2 with a good body");
+                check(told[NUNTHILA_TOLD_ANSWER] == 2, "told: 2");
+                set_text("x");
+                check(run(which, 5) == 2, "2 before 3");
+                set_text("node=str\nfn=0,0\n");
+                check(run(which, 5) == 2, "2 before 10");
+                memset(body, 'x', NUNTHILA_BYTES + 1);
+                body_length = NUNTHILA_BYTES + 1;
+                check(run(which, 6) == 1, "1 before 2");
+            }
+        }
+    }
+}
+
+/* Longer tables, each alone and all at once: the same rows, and zeros to the end of each. */
+static void longer_tables(void) {
+    static const char *const bodies[] = {lambda, keys, "x", "node=str\nfn=0,0\n"};
+    size_t i;
+    int s, t;
+
+    for (i = 0; i < sizeof bodies / sizeof bodies[0]; i++) {
+        for (s = 0; s <= TABLES; s++) {
+            size_t answer;
+            set_text(bodies[i]);
+            usual_lengths();
+            snprintf(about, sizeof about, "longer tables, body %lu, %s", (unsigned long)i, s == TABLES ? "all" : slice_name[s]);
+            answer = run(REPORT, 7);
+            keep();
+            for (t = 0; t < TABLES; t++)
+                if (t == s || s == TABLES)
+                    length[t] += LONGER;
+            check(run(REPORT, 8) == answer, "the same answer");
+            for (t = 0; t < TABLES; t++)
+                check_of(as_kept(t, kept_length[t]), slice_name[t], "the same rows");
+            check(as_kept(TOLD, NUNTHILA_TOLD), "the same is told");
+            check(as_kept(OUT, told[NUNTHILA_TOLD_LENGTH]), "the same text");
+        }
+    }
+}
+
+static void logs(void) {
+    static const uint16_t equations[3 * 3] = {8, 14, 0, 1, 1, 0, 0, 0, 0};
+    size_t n;
+
+    set_text("node=int\nnode=let,8,0\nnode=bool\nnode=let,1,2\nnode=block,-,1,3\nfn=0,4\n");
+    for (n = 0; n <= 12; n++) {
+        size_t whole = n < 9 ? n / 3 * 3 : 9;
+        usual_lengths();
+        length[LOG] = n;
+        snprintf(about, sizeof about, "log of %lu cells", (unsigned long)n);
+        check(run(CHECK, 9) == 0, "0");
+        check(told[NUNTHILA_TOLD_EQUATIONS] == 3, "told: three equations");
+        check(same(log_cells, equations, whole), "the equations that fit whole");
+        check(run(REPORT, 10) == 0, "0 of report");
+        check(same(log_cells, equations, whole), "the equations that fit whole, of report");
+    }
+}
+
+/* ---- lengths of the output ---- */
+
+static void outputs_of(const char *name, size_t answer, size_t place, const char *text) {
+    size_t fit = strlen(text), i;
+    size_t lengths[8];
+
+    expect(name, answer, place, text);
+    lengths[0] = 0;
+    lengths[1] = 1;
+    lengths[2] = 10;
+    lengths[3] = 11;
+    lengths[4] = fit - 1;
+    lengths[5] = fit;
+    lengths[6] = fit + 1;
+    lengths[7] = OUT_MOST;
+    for (i = 0; i < 8; i++) {
+        int room_enough = lengths[i] >= fit;
+        usual_lengths();
+        run(CHECK, 11);
+        keep();
+        snprintf(about, sizeof about, "output of %lu bytes, %s", (unsigned long)lengths[i], name);
+        length[OUT] = lengths[i];
+        check(run(REPORT, 11) == (room_enough ? answer : NUNTHILA_NO_ROOM), "9 where the text has no room, else the answer");
+        check(tables_as_kept(), "the tables are those of check");
+        check(as_kept(TOLD, NUNTHILA_TOLD_LENGTH), "what is told is as of check, but for the length");
+        check(told[NUNTHILA_TOLD_LENGTH] == (room_enough ? fit : 0), "told: the length, or 0");
+        if (room_enough)
+            check(memcmp(out, text, fit) == 0, "text");
+    }
+}
+
+static void outputs(void) {
+    set_text(worked);
+    outputs_of("worked", 0, 0, worked_text);
+    set_text(lambda);
+    outputs_of("lambda", 0, 0, lambda_text);
+    set_text(short_body);
+    outputs_of("short", 0, 0, short_text);
+    set_text("");
+    outputs_of("empty", 3, 1, "answer=3,1\n");
+    set_text("node=str\nfn=0,0\n");
+    outputs_of("str", 10, 0, "answer=10,0\n");
+    memset(body, 'x', NUNTHILA_BYTES + 1);
+    body_length = NUNTHILA_BYTES + 1;
+    outputs_of("65,537 bytes", 1, 0, "answer=1,-\n");
+
+    strcpy(about, "output too short and a table too short");
+    set_text(worked);
+    usual_lengths();
+    length[ERRORS]--;
+    length[OUT] = 10;
+    check(run(REPORT, 12) == 9, "9");
+    check(told[NUNTHILA_TOLD_ANSWER] == 2, "told: 2");
+    length[OUT] = 11;
+    check(run(REPORT, 12) == 2, "2");
+}
+
+/* ---- lengths of told ---- */
+
+static void told_lengths(void) {
+    static const char *const bodies[] = {lambda, "x", "node=str\nfn=0,0\n"};
+    size_t i, n;
+    int which;
+
+    for (i = 0; i < sizeof bodies / sizeof bodies[0]; i++) {
+        for (which = CHECK; which <= REPORT; which++) {
+            size_t answer;
+            set_text(bodies[i]);
+            usual_lengths();
+            snprintf(about, sizeof about, "told, body %lu", (unsigned long)i);
+            answer = run(which, 13);
+            keep();
+            for (n = 0; n <= NUNTHILA_TOLD + LONGER; n++) {
+                size_t fits = n < NUNTHILA_TOLD ? n : NUNTHILA_TOLD;
+                length[TOLD] = n;
+                snprintf(about, sizeof about, "told of %lu elements, body %lu, %s", (unsigned long)n, (unsigned long)i,
+                         which == CHECK ? "check" : "report");
+                check(run(which, 13) == answer, "the same answer");
+                check(as_kept(TOLD, fits), "what fits is told");
+                check(memcmp(told + fits, before[TOLD] + slice_from(TOLD) + fits * sizeof *told, (n - fits) * sizeof *told) == 0,
+                      "elements from 14 on are as they were");
+                check(tables_as_kept(), "the same tables");
+            }
+        }
+    }
+}
+
+/* ---- slices of exact length, not initialised: for valgrind ---- */
+
+static void exact_slices(void) {
+    size_t i;
+
+    strcpy(about, "slices of exact length");
+    for (i = 0; i < KNOWN; i++) {
+        void *slice[SLICES];
+        uint8_t *s;
+        size_t answer, n;
+        int t, given = 1;
+
+        set_text(known[i].body);
+        usual_lengths();
+        run(REPORT, 14);
+        length[OUT] = told[NUNTHILA_TOLD_LENGTH];
+        keep();
+        s = malloc(body_length ? body_length : 1);
+        for (t = 0; t < SLICES; t++) {
+            slice[t] = malloc(length[t] ? length[t] * element[t] : 1);
+            given = given && slice[t] != NULL;
+        }
+        if (!given || s == NULL) {
+            printf("no memory\n");
+            exit(1);
+        }
+        memcpy(s, body, body_length);
+        answer = nunthila_report(s, body_length, slice[ROWS], length[ROWS], slice[CELLS], length[CELLS], slice[NODES], length[NODES],
+                                 slice[VARS], length[VARS], slice[TYPES], length[TYPES], slice[ERRORS], length[ERRORS], slice[LOG],
+                                 length[LOG], slice[MEMORY], length[MEMORY], slice[OUT], length[OUT], slice[TOLD], length[TOLD]);
+        check(answer == known[i].answer, "answer");
+        for (t = 0; t < SLICES; t++)
+            check_of(memcmp(slice[t], kept[t], length[t] * element[t]) == 0, slice_name[t], "as in a longer room");
+        n = nunthila_check(s, body_length, slice[ROWS], length[ROWS], slice[CELLS], length[CELLS], slice[NODES], length[NODES],
+                           slice[VARS], length[VARS], slice[TYPES], length[TYPES], slice[ERRORS], length[ERRORS], slice[LOG],
+                           length[LOG], slice[MEMORY], length[MEMORY], slice[TOLD], length[TOLD]);
+        check(n == answer, "answer of check in the same slices");
+        for (t = 0; t < TABLES; t++)
+            check_of(memcmp(slice[t], kept[t], length[t] * element[t]) == 0, slice_name[t], "the same from check");
+        for (t = 0; t < SLICES; t++)
+            free(slice[t]);
+        free(s);
+    }
+}
+
+/* ---- slices that hold what an earlier call left ---- */
+
+static void used_again(void) {
+    size_t i, k;
+
+    for (i = 0; i < KNOWN; i++) {
+        for (k = 0; k < KNOWN; k++) {
+            size_t answer;
+            snprintf(about, sizeof about, "%s behind %s", known[k].name, known[i].name);
+            usual_lengths();
+            set_text(known[k].body);
+            answer = call(REPORT);
+            keep();
+            set_text(known[i].body);
+            call(REPORT);
+            set_text(known[k].body);
+            check(call(REPORT) == answer && answer == known[k].answer, "the same answer");
+            check(tables_as_kept(), "the same tables");
+            check(as_kept(TOLD, NUNTHILA_TOLD), "the same is told");
+            check(as_kept(OUT, told[NUNTHILA_TOLD_LENGTH]), "the same text");
+        }
+    }
+}
+
+/* ---- damaged copies ---- */
+
+static uint32_t state = 20260101;
+
+/* A pseudo-random number below n. */
+static size_t below(size_t n) {
+    state ^= state << 13;
+    state ^= state >> 17;
+    state ^= state << 5;
+    return state % n;
+}
+
+static size_t line_start(size_t at) {
+    while (at > 0 && body[at - 1] != '\n')
+        at--;
+    return at;
+}
+
+/* One behind the line feed of the line, or the end. */
+static size_t line_end(size_t at) {
+    while (at < body_length && body[at] != '\n')
+        at++;
+    return at < body_length ? at + 1 : at;
+}
+
+/* A digit for a digit, where the body has one behind the place. */
+static void damage_digit(size_t at) {
+    while (at < body_length && (body[at] < '0' || body[at] > '9'))
+        at++;
+    if (at < body_length)
+        body[at] = (uint8_t)('0' + below(10));
+}
+
+/* A line once more, in front of another one. */
+static void damage_line(size_t at, size_t to) {
+    uint8_t line[64];
+    size_t from = line_start(at), n = line_end(at) - from;
+    to = line_start(to);
+    if (n > sizeof line)
+        return;
+    memcpy(line, body + from, n);
+    memmove(body + to + n, body + to, body_length - to);
+    memcpy(body + to, line, n);
+    body_length += n;
+}
+
+static void damage_once(void) {
+    static const char bytes[] = "0123456789,:=-\nabcdefilnoprtuy";
+    size_t at, from, to;
+
+    if (body_length == 0)
+        return;
+    at = below(body_length);
+    switch (below(12)) {
+    case 0: /* another byte of the alphabet of bodies */
+        body[at] = (uint8_t)bytes[below(sizeof bytes - 1)];
+        break;
+    case 1: /* any other byte */
+        body[at] = (uint8_t)below(256);
+        break;
+    case 2: /* a byte less */
+        memmove(body + at, body + at + 1, body_length - at - 1);
+        body_length--;
+        break;
+    case 3: /* a byte more */
+        memmove(body + at + 1, body + at, body_length - at);
+        body[at] = (uint8_t)bytes[below(sizeof bytes - 1)];
+        body_length++;
+        break;
+    case 4: /* a line less */
+        from = line_start(at);
+        to = line_end(at);
+        memmove(body + from, body + to, body_length - to);
+        body_length -= to - from;
+        break;
+    case 5:
+        damage_line(at, below(body_length));
+        break;
+    default:
+        damage_digit(at);
+        break;
+    }
+}
+
+static void damaged(unsigned long copies) {
+    static const char *const bodies[] = {worked, lambda, keys, negated, inside};
+    unsigned long i, answers[14] = {0};
+
+    for (i = 0; i < copies; i++) {
+        size_t a, b, n = 1 + below(2), length_before, k;
+        set_text(bodies[i % (sizeof bodies / sizeof bodies[0])]);
+        for (k = 0; k < n; k++)
+            damage_once();
+        usual_lengths();
+        length[LOG] = below(40);
+        length[OUT] = below(4) == 0 ? below(700) : NUNTHILA_OUT;
+        snprintf(about, sizeof about, "damaged copy %lu, check", i);
+        a = run(CHECK, (unsigned)(2 * i));
+        keep();
+        snprintf(about, sizeof about, "damaged copy %lu, report", i);
+        b = run(REPORT, (unsigned)(2 * i + 1));
+        check(b == a || b == NUNTHILA_NO_ROOM, "the answer of check, or 9");
+        check(tables_as_kept(), "the tables are those of check");
+        check(as_kept(TOLD, NUNTHILA_TOLD_LENGTH), "what is told is as of check, but for the length");
+        length_before = told[NUNTHILA_TOLD_LENGTH];
+        /* The text fits into its own length, and not into one byte less. */
+        if (b != NUNTHILA_NO_ROOM && length_before > 0) {
+            keep();
+            length[OUT] = length_before;
+            check(call(REPORT) == a && as_kept(OUT, length_before), "the text fits exactly");
+            length[OUT] = length_before - 1;
+            check(call(REPORT) == NUNTHILA_NO_ROOM, "9 with one byte less");
+        }
+        if (a < 14)
+            answers[a]++;
+    }
+    if (copies >= 2000) {
+        strcpy(about, "damaged copies");
+        check(answers[0] > copies / 50 && answers[3] > copies / 50 && answers[5] > copies / 50, "many are answered 0, 3 and 5");
+        check(answers[11] > 0 && answers[12] > 0 && answers[13] > 0, "some are answered 11, 12 and 13");
+    }
+}
+
+int main(int argc, char **argv) {
+    unsigned long copies = argc > 1 ? strtoul(argv[1], NULL, 10) : 2000;
+
+    make_pattern();
+    known_bodies();
+    limits();
+    sizes();
+    cells_by_hand();
+    short_tables();
+    longer_tables();
+    logs();
+    outputs();
+    told_lengths();
+    exact_slices();
+    used_again();
+    damaged(copies);
+    printf("%lu passed, %lu failed\n", passed, failed);
+    return failed > 0;
+}

@@ -1,0 +1,236 @@
+/* A library that is wrong in one way, to see that the tests tell it: the true functions, renamed, and a fault behind them. The variable
+   NUNTHILA_FAULT has the number of the fault; 0 is none. `test` builds the tests with it and wants each fault to be told. */
+#include "nunthila.h"
+
+#include <stdlib.h>
+#include <string.h>
+
+#define SLICES                                                                                                                      \
+    const uint8_t *s, size_t s_len, uint16_t *rows, size_t rows_len, uint16_t *cells, size_t cells_len, uint16_t *nodes,            \
+        size_t nodes_len, uint16_t *vars, size_t vars_len, uint16_t *types, size_t types_len, nunthila_error *errors,               \
+        size_t errors_len, uint16_t *log, size_t log_len, uint16_t *memory, size_t memory_len
+
+#define GIVEN                                                                                                                       \
+    s, s_len, rows, rows_len, cells, cells_len, nodes, nodes_len, vars, vars_len, types, types_len, errors, errors_len, log,        \
+        log_len, memory, memory_len
+
+size_t nunthila_true_check(SLICES, size_t *told, size_t told_len);
+size_t nunthila_true_report(SLICES, uint8_t *out, size_t out_len, size_t *told, size_t told_len);
+
+static int fault(void) {
+    static int number = -1;
+    if (number < 0) {
+        const char *v = getenv("NUNTHILA_FAULT");
+        number = v ? atoi(v) : 0;
+    }
+    return number;
+}
+
+/* No table that is used below is short, and told is whole. */
+#define WHOLE (rows_len >= NUNTHILA_ROWS && memory_len >= NUNTHILA_MEMORY && told_len >= NUNTHILA_TOLD)
+
+static size_t either(int report, SLICES, uint8_t *out, size_t out_len, size_t *told, size_t told_len) {
+    static uint16_t spare[NUNTHILA_CELLS + NUNTHILA_MEMORY]; /* as long as any table */
+    static nunthila_error spare_errors[NUNTHILA_ERRORS];
+    size_t inner[NUNTHILA_TOLD], answer, i, n;
+    uint16_t tail = nodes_len > NUNTHILA_NODES ? nodes[nodes_len - 1] : 0;
+    int f = fault();
+
+    /* ---- faults of what is accepted ---- */
+    if (f == 1 && rows_len == NUNTHILA_ROWS - 1)
+        rows = spare, rows_len++;
+    if (f == 2 && cells_len == NUNTHILA_CELLS - 1)
+        cells = spare, cells_len++;
+    if (f == 3 && nodes_len == NUNTHILA_NODES - 1)
+        nodes = spare, nodes_len++;
+    if (f == 4 && vars_len == NUNTHILA_VARS - 1)
+        vars = spare, vars_len++;
+    if (f == 5 && types_len == NUNTHILA_TYPES - 1)
+        types = spare, types_len++;
+    if (f == 6 && errors_len == NUNTHILA_ERRORS - 1)
+        errors = spare_errors, errors_len++;
+    if (f == 7 && memory_len == NUNTHILA_MEMORY - 1)
+        memory = spare, memory_len++;
+    if (f == 8 && s_len == NUNTHILA_BYTES + 1)
+        s_len--;
+    if (f == 9 && s_len == NUNTHILA_BYTES) /* as if too long */
+        rows_len = 0;
+    if (f == 10 && memory_len == NUNTHILA_MEMORY) /* as if one cell more were needed */
+        memory_len = 0;
+
+    answer = report ? nunthila_true_report(GIVEN, out, out_len, inner, NUNTHILA_TOLD) : nunthila_true_check(GIVEN, inner, NUNTHILA_TOLD);
+    n = inner[NUNTHILA_TOLD_LENGTH];
+
+    /* ---- faults of what is told ---- */
+    if (f == 11 && answer == NUNTHILA_NO_ROOM)
+        inner[NUNTHILA_TOLD_ANSWER] = 9;
+    if (f == 12 && inner[NUNTHILA_TOLD_HAS_PLACE] == 1)
+        inner[NUNTHILA_TOLD_HAS_PLACE] = 0;
+    if (f == 13 && inner[NUNTHILA_TOLD_HAS_PLACE] == 1)
+        inner[NUNTHILA_TOLD_PLACE]++;
+    if (f == 14 && answer == 1)
+        inner[NUNTHILA_TOLD_PLACE] = 1;
+    if (f == 15 && answer >= 3 && answer <= 6)
+        inner[NUNTHILA_TOLD_FIELDS] = 1;
+    if (f == 16 && report)
+        inner[NUNTHILA_TOLD_LENGTH]++;
+    if (f == 17 && !report)
+        inner[NUNTHILA_TOLD_LENGTH] = 1;
+    if (f == 18 && answer == NUNTHILA_NO_ROOM)
+        inner[NUNTHILA_TOLD_LENGTH] = out_len;
+    if (f == 19 && answer == 0)
+        inner[NUNTHILA_TOLD_DEFS]++;
+    if (f == 20 && answer == 0)
+        inner[NUNTHILA_TOLD_EQUATIONS] = inner[NUNTHILA_TOLD_EQUATIONS] < log_len / 3 ? inner[NUNTHILA_TOLD_EQUATIONS] : log_len / 3;
+    if (f == 21 && answer == 0)
+        inner[NUNTHILA_TOLD_VARS] = 1025;
+    if (f == 22)
+        answer = answer == 5 ? 4 : answer;
+    if (f == 23 && answer == 13)
+        answer = inner[NUNTHILA_TOLD_ANSWER] = 12;
+    if (f == 76 && answer == NUNTHILA_NO_ROOM)
+        answer = inner[NUNTHILA_TOLD_ANSWER];
+    if (f == 77 && answer >= 10)
+        inner[NUNTHILA_TOLD_PLACE] = 65535;
+    if (f == 24 && told_len < NUNTHILA_TOLD)
+        told_len = 0;
+    if (f == 25 && told_len > NUNTHILA_TOLD)
+        told[NUNTHILA_TOLD] = 0;
+    if (f == 26)
+        told[told_len] = 0;
+    for (i = 0; i < told_len && i < NUNTHILA_TOLD; i++)
+        told[i] = inner[i];
+
+    /* ---- faults of the output ---- */
+    if (f == 27 && answer == NUNTHILA_NO_ROOM && out_len > 0)
+        out[out_len - 1] = 'a';
+    if (f == 28 && report && answer != NUNTHILA_NO_ROOM && n < out_len)
+        out[n] = 0;
+    if (f == 29 && report && n > 12)
+        out[n - 2] ^= 1;
+    if (f == 30 && report && n > 0 && n == out_len) { /* as if one byte more were needed */
+        memset(out, 0, out_len);
+        answer = NUNTHILA_NO_ROOM;
+    }
+    if (f == 31 && report)
+        out[out_len] = 0;
+    if (f == 32 && report)
+        out[-1] = 0;
+
+    /* ---- faults around the tables and in the body ---- */
+    if (f == 33)
+        rows[-1] = 0;
+    if (f == 34)
+        cells[cells_len] = 0;
+    if (f == 35)
+        errors[errors_len].c = 0;
+    if (f == 36)
+        log[log_len] = 0;
+    if (f == 37)
+        memory[memory_len] = 0;
+    if (f == 38)
+        types[-1] = 0;
+    if (f == 39 && s_len > 0)
+        *(uint8_t *)(size_t)s ^= 1;
+
+    /* ---- faults in the tables ---- */
+    if (!WHOLE) {
+        if (f == 40 && answer == 2 && memory_len > 0)
+            memory[memory_len - 1] = 0;
+        if (f == 41 && answer == 2 && rows_len > 0)
+            rows[0] = 0;
+        return answer;
+    }
+    if (f == 42 && answer == 1 && types_len > 0)
+        types[0] = 0;
+    if (f == 43 && answer >= 3 && answer <= 6)
+        cells[cells_len - 1] = 1;
+    if (f == 44 && answer >= 10 && answer <= 13)
+        errors[errors_len - 1].kind = 1;
+    if (f == 45 && answer >= 10 && answer <= 13 && log_len > 0)
+        log[log_len - 1] = 1;
+    if (f == 46 && answer >= 3 && answer <= 6)
+        memory[7] = 1;
+    if (told[NUNTHILA_TOLD_ANSWER] != 0)
+        return answer;
+    if (f == 47)
+        rows[2559] = 1;
+    if (f == 48)
+        cells[cells_len - 1] = 1;
+    if (f == 49)
+        nodes[nodes_len - 1] = 1;
+    if (f == 50)
+        vars[vars_len - 1] = 1;
+    if (f == 51)
+        types[types_len - 1] = 1;
+    if (f == 52)
+        types[NUNTHILA_INPUTS_FROM - 1] = 1;
+    if (f == 53)
+        errors[errors_len - 1].c = 1;
+    if (f == 54 && log_len % 3 != 0)
+        log[log_len - 1] = 1;
+    if (f == 55)
+        memory[memory_len - 1] = 1;
+    if (f == 56 && nodes_len > NUNTHILA_NODES) /* as if no cell behind the required length were written */
+        nodes[nodes_len - 1] = tail;
+    for (i = 0; i < told[NUNTHILA_TOLD_NODES]; i++) {
+        uint16_t *c = nodes + NUNTHILA_NODE_CELLS * i;
+        if (f == 57)
+            c[NUNTHILA_NODE_FINAL] = c[NUNTHILA_NODE_RAW];
+        if (f == 58 && c[NUNTHILA_NODE_EXTRA] == NUNTHILA_EXTRA_LET)
+            c[NUNTHILA_NODE_EXTRA] = NUNTHILA_EXTRA_METHOD;
+        if (f == 59 && c[NUNTHILA_NODE_EXTRA] == NUNTHILA_EXTRA_CONSTRUCTOR)
+            c[NUNTHILA_NODE_EXTRA] = NUNTHILA_EXTRA_FN;
+        if (f == 60)
+            rows[NUNTHILA_ROW_CELLS * (NUNTHILA_FIRST_NODE + i) + NUNTHILA_ROW_LEVELS] = 0;
+    }
+    for (i = 0; i < told[NUNTHILA_TOLD_VARS] && i < 1024; i++) {
+        uint16_t *c = vars + NUNTHILA_VAR_CELLS * i;
+        if (f == 61)
+            c[NUNTHILA_VAR_MARKED] = 0;
+        if (f == 62 && c[NUNTHILA_VAR_KIND] == NUNTHILA_KIND_FLOAT)
+            c[NUNTHILA_VAR_KIND] = NUNTHILA_KIND_INT;
+        if (f == 63)
+            c[NUNTHILA_VAR_IS_BOUND] = 1;
+    }
+    for (i = 0; i < told[NUNTHILA_TOLD_MADE]; i++) {
+        uint16_t *c = types + NUNTHILA_MADE_CELLS * i;
+        if (f == 64 && c[NUNTHILA_MADE_HEAD] == NUNTHILA_HEAD_REF)
+            c[NUNTHILA_MADE_HEAD] = NUNTHILA_HEAD_ARRAY;
+        if (f == 65 && c[NUNTHILA_MADE_INPUTS] > 1)
+            types[NUNTHILA_INPUTS_FROM + c[NUNTHILA_MADE_FIRST]] = types[NUNTHILA_INPUTS_FROM + c[NUNTHILA_MADE_FIRST] + 1];
+        if (f == 66)
+            c[NUNTHILA_MADE_HEAD] = 9;
+    }
+    for (i = 0; i < told[NUNTHILA_TOLD_ERRORS]; i++) {
+        if (f == 67)
+            errors[i].cause = 0;
+        if (f == 68 && errors[i].span == NUNTHILA_SPAN_SIGNATURE)
+            errors[i].span = NUNTHILA_SPAN_BIND_ITEM;
+        if (f == 69)
+            errors[i].between = 0;
+        if (f == 70)
+            errors[i].kind = 11;
+        if (f == 71 && errors[i].kind == NUNTHILA_WRONG_ARGUMENT_TY)
+            errors[i].c++;
+    }
+    for (i = 0; i < log_len / 3; i++) {
+        if (f == 72 && log[3 * i + 2] != 0)
+            log[3 * i + 2] = 0;
+        if (f == 73 && log[3 * i + 2] == 2)
+            log[3 * i + 2] = 1;
+    }
+    if (f == 74 && report)
+        rows[NUNTHILA_ROW_CELLS * NUNTHILA_FIRST_FN] = 28;
+    if (f == 75 && log_len >= 3)
+        log[2] = 12;
+    return answer;
+}
+
+size_t nunthila_check(SLICES, size_t *told, size_t told_len) {
+    return either(0, GIVEN, NULL, 0, told, told_len);
+}
+
+size_t nunthila_report(SLICES, uint8_t *out, size_t out_len, size_t *told, size_t told_len) {
+    return either(1, GIVEN, out, out_len, told, told_len);
+}
