@@ -1,27 +1,17 @@
 // The report of a file with the errors in a slice of numbers, nine for each row: for a program that lends numbers alone.
 ghost use mathlib.Core.Path.{_≡_};
-ghost use Prim.Native.Nat.{_*_, _≤_};
-ghost use lib.ListN.{set};
+ghost use Prim.Native.Nat.{_+_, _*_, _≤_};
+ghost use lib.ListN.{length, set};
 ghost use lib.Seq.{sets};
-ghost use Rattle.type_table.specs.Memory.{cell};
-ghost use Rattle.flat_report.specs.Flat.{held-rows, rowFrom, rowNumbers, rowsFrom, rowsIn, putTo, Flat};
+ghost use Rattle.errors.specs.Rows.{rowIn};
+ghost use Rattle.flat_report.specs.Flat.{rowNumbers, putRows, Flat};
 use errors::ErrorRow;
 use report_text::Reported;
 
 // The numbers of a table of 4,096 errors.
 pub const ERRORS: usize = 36864;
 
-// The rows that are held: one more than a report asks for.
-pub const HELD: usize = 4097;
-
 // ── rows and numbers ──
-
-// The number i; 0 past the end.
-fn number(t: &[u16], i: usize) -> u16
-    ensures { λ r. ⌜ r ≡ cell (now (t .entry)) i ⌝ }
-{
-    if i < t.len() { t[i] } else { 0 }
-}
 
 // Writes the number i. Without room nothing changes.
 fn put(t: &mut [u16], i: usize, x: u16)
@@ -32,29 +22,11 @@ fn put(t: &mut [u16], i: usize, x: u16)
     }
 }
 
-// The row i of a slice of numbers; zeros past its end.
-fn row_of(t: &[u16], i: u16) -> ErrorRow
-    ensures { λ r. ⌜ r ≡ rowFrom (now (t .entry)) i ⌝ }
+// Writes the nine numbers of a row from f on.
+fn put_row(t: &mut [u16], f: usize, r: ErrorRow)
+    requires { ⌜ f ≤ length (now t) ⌝ }
+    ensures { λ _. ⌜ now (t .exit) ≡ sets (now (t .entry)) f (rowNumbers r) ⌝ }
 {
-    let f = i as usize * 9;
-    ErrorRow {
-        kind: number(t, f),
-        cause: number(t, f + 1),
-        span: number(t, f + 2),
-        at: number(t, f + 3),
-        between: number(t, f + 4),
-        second: number(t, f + 5),
-        a: number(t, f + 6),
-        b: number(t, f + 7),
-        c: number(t, f + 8),
-    }
-}
-
-// Writes a row as the numbers of the row i.
-fn put_row(t: &mut [u16], i: u16, r: ErrorRow)
-    ensures { λ _. ⌜ now (t .exit) ≡ sets (now (t .entry)) (i * 9) (rowNumbers r) ⌝ }
-{
-    let f = i as usize * 9;
     put(t, f, r.kind);
     put(t, f + 1, r.cause);
     put(t, f + 2, r.span);
@@ -66,40 +38,17 @@ fn put_row(t: &mut [u16], i: u16, r: ErrorRow)
     put(t, f + 8, r.c);
 }
 
-// How many whole rows n numbers are, at most those that are held.
-fn rows_in(n: usize) -> usize
-    ensures { λ r. ⌜ (r ≡ rowsIn n) × (r ≤ held-rows) ⌝ }
+// Writes the first `end` rows as numbers, from the memory of a walk with n errors: those of the errors, zeros behind them.
+fn put_errors(t: &mut [u16], m: &[u16], n: u16, end: usize)
+    requires { ⌜ end * 9 ≤ length (now t) ⌝ }
+    ensures { λ _. ⌜ now (t .exit) ≡ putRows (now (t .entry)) (rowIn (now (m .entry)) n) end ⌝ }
 {
-    let k = n / 9;
-    if k < HELD { k } else { HELD }
-}
-
-// The rows of a slice of numbers, as many as are held.
-fn rows_of(t: &[u16]) -> [ErrorRow; HELD]
-    ensures { λ r. ⌜ r ≡ rowsFrom (now (t .entry)) ⌝ }
-{
-    let z = errors::no_error();
-    let mut held = [z; HELD];
-    let mut i: u16 = 0;
-    while i < 4097 {
-        let r = row_of(t, i);
-        held[i as usize] = r;
-        i += 1;
-    }
-    held
-}
-
-// Writes the first n of the rows that are held as numbers, where so many are held.
-fn put_rows(t: &mut [u16], held: [ErrorRow; HELD], n: usize)
-    ensures { λ _. ⌜ (n ≤ held-rows → now (t .exit) ≡ putTo (now (t .entry)) held n) ⌝ }
-{
-    let mut i: u16 = 0;
-    while i < 4097 {
-        if n <= i as usize {
-            return;
-        }
-        let r = held[i as usize];
-        put_row(t, i, r);
+    let mut i = 0;
+    let mut f = 0;
+    while i < end {
+        let r = errors::error_row(m, n, i);
+        put_row(t, f, r);
+        f += 9;
         i += 1;
     }
 }
@@ -121,20 +70,12 @@ pub fn report_flat(
 ) -> Reported
     ensures { λ r. ⌜ Flat (now (s .entry)) (now (rows .entry)) (now (cells .entry)) (now (nodes .entry)) (now (vars .entry)) (now (types .entry)) (now (errors .entry)) (now (log .entry)) (now (memory .entry)) (now (out .entry)) r (now (rows .exit)) (now (cells .exit)) (now (nodes .exit)) (now (vars .exit)) (now (types .exit)) (now (errors .exit)) (now (log .exit)) (now (memory .exit)) (now (out .exit)) ⌝ }
 {
-    let mut held = rows_of(errors);
-    let n = rows_in(errors.len());
-    let r = report::report(
-        s,
-        rows,
-        cells,
-        nodes,
-        vars,
-        types,
-        &mut held[..n],
-        log,
-        memory,
-        out,
-    );
-    put_rows(errors, held, n);
+    let n = errors.len() / 9;
+    let r = report::report_tables(s, rows, cells, nodes, vars, types, n, log, memory, out);
+    let a = report_text::answer_of(r);
+    let used = answers::errors_used(a);
+    let end = answers::errors_end(a, n);
+    put_errors(errors, memory, used, end);
+    answers::end_memory(memory, a);
     r
 }

@@ -1,5 +1,4 @@
 pub mod Slices
-pub mod Part
 pub mod Sorts
 pub mod Frees
 pub mod Unit
