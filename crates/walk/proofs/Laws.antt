@@ -1,5 +1,5 @@
 -- What each return of the walk shows: the program of a rule, from those of its parts.
-use mathlib.Core.Path.{_≡_}
+use mathlib.Core.Path.{_≡_, refl, sym, subst}
 use mathlib.Core.List.{List}
 use mathlib.Core.Option.{Option, none, some}
 use Prim.Native.Nat.{ℕ, suc, _+_, _-_, _<_, _≤_}
@@ -27,10 +27,11 @@ use Rattle.record.specs.declared.Record.{Record}
 use Rattle.record.specs.declared.Span.{Span}
 use Rattle.record.specs.declared.Span.the-variants as span
 use Rattle.record.specs.declared.Typed.{Typed}
+use Rattle.record.specs.declared.Typed.the-variants as typed
 use Rattle.record.specs.declared.Ruled.{Ruled}
 use Rattle.record.specs.Steps.{Walk, set-node-type, for-each}
-use Rattle.record.specs.Encodes.{Runs, Stops, Types, Rules}
-use Rattle.record.specs.Runs.{runs-done, then, then-stops, stops, after, after-rules}
+use Rattle.record.specs.Encodes.{Runs, Stops, Does, Types, Rules}
+use Rattle.record.specs.Runs.{runs-done, then, then-stops, stops, after, after-rules, type-is, type-refused, typed-type, typed-refused}
 use Rattle.record.specs.Loops.{Onto, onto-same, onto-start, onto-next, onto-stops, onto-end}
 use Rattle.rules.specs.declared.Indexed.{Indexed}
 use Rattle.rules.specs.declared.Indexed.the-variants as indexed
@@ -43,6 +44,7 @@ use Rattle.rules.specs.Rules as rule
 use Rattle.walk.specs.declared.Pair.{Pair}
 use Rattle.walk.specs.declared.Pair.the-variants as pair
 use Rattle.walk.specs.Pairs.{Pairs}
+use Rattle.walk.specs.WrittenDown.{WrittenDown}
 use Rattle.walk.specs.Walk.{Visit, two, typeck-expr-bin-op, typeck-assign, typeck-op-assign, typeck-expr-un-op, typeck-expr-field, element, elements, rest, typeck-expr-list, index-of, typeck-expr-index, typeck-local, typeck-stmt, stmt, stmts, tail, typeck-block, block-at, typeck-else, typeck-branches, typeck-expr-if, typeck-loop, arg, args, verify-arguments-for-call, typeck-call, verify-arguments-for-method-call, typeck-expr-meth-call, typeck-return, lambda-body, typeck-lambda, rule-of, typeck-rule, typeck-expr}
 
 -- ── answers by their variants ──
@@ -431,6 +433,19 @@ module _ (b : Body) (n : ℕ) where
   pub expr-off : {m m′ : List ℕ} {c d : Record} (k a p : ℕ) → (k ≡ 0 → ⊥) → Stops m c m′ d (typeck-rule b (typeck-expr b (k - 1)) n) a p → Stops m c m′ d (typeck-expr b k n) a p
   unfolding typeck-expr
   expr-off k a p h R = rw (levels-below k h) (stops _ R)
+
+  -- what its rule gave is written down
+  pub expr-written : {m m₁ m′ : List ℕ} {c : Record} {z : Typed} (k : ℕ) → (k ≡ 0 → ⊥) → Types m c m₁ z (typeck-rule b (typeck-expr b (k - 1)) n) → WrittenDown m₁ n z m′ → Types m c m′ z (typeck-expr b k n)
+  expr-written {z = typed.Type d t} k h R w = typed-type (expr-on k (t .0) h (type-is refl R) (w .by d))
+  expr-written {z = typed.Refused d a p} k h R w = typed-refused (expr-off k a (p .0) h (type-refused refl (rw (w .by) R)))
+
+-- a type is written down,
+pub written-type : (n : ℕ) {m w : List ℕ} {z : Typed} {d : Record} {t : TypeId} → z ≡ typed.Type d t → Does m w (set-node-type n (t .0)) → WrittenDown m n z w
+written-type n {m = m} {w = w} e p = subst (λ (z : Typed). WrittenDown m n z w) (sym e) (record { by = p })
+
+-- and nothing of a refusal
+pub written-none : (n : ℕ) {m : List ℕ} {z : Typed} {d : Record} {k : ℕ} {p : NodeId} → z ≡ typed.Refused d k p → WrittenDown m n z m
+written-none n {m = m} e = subst (λ (z : Typed). WrittenDown m n z m) (sym e) (record { by = refl })
 
 -- ── loops ──
 

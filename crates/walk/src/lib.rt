@@ -6,6 +6,7 @@ ghost use Rattle.record.specs.Encodes.{Types, Rules};
 ghost use Rattle.rules.specs.Answers.{tables};
 ghost use Rattle.walk.specs.Walk.{typeck-expr-bin-op, typeck-assign, typeck-op-assign, typeck-expr-un-op, typeck-expr-field, typeck-expr-list, index-of, typeck-expr-index, typeck-else, typeck-branches, typeck-expr-if, typeck-loop, verify-arguments-for-call, typeck-call, verify-arguments-for-method-call, typeck-expr-meth-call, typeck-return, typeck-local, typeck-stmt, typeck-block, block-at, lambda-body, typeck-lambda, typeck-rule, typeck-expr};
 ghost use Rattle.walk.specs.Pairs.{Pairs};
+ghost use Rattle.walk.specs.WrittenDown.{WrittenDown};
 use nodes::BinOp;
 use nodes::Callee;
 use nodes::Items;
@@ -760,6 +761,16 @@ fn rule(
     }
 }
 
+// Writes down the type that a rule gave the node n; a refusal gives none.
+fn write_down(m: &mut [u16], n: NodeId, z: Typed)
+    ensures { λ _. ⌜ WrittenDown (now (m .entry)) (n .0) z (now (m .exit)) ⌝ }
+{
+    match z {
+        Typed::Type(d, t) => record::set_node_type(m, n, t),
+        Typed::Refused(d, k, p) => {}
+    }
+}
+
 // `type_of`: the type of the node n, which is written down.
 pub fn expr(
     rows: &[u16],
@@ -775,11 +786,7 @@ pub fn expr(
     if level == 0 {
         return Typed::Type(c, TypeId(ERR));
     }
-    match rule(rows, cells, m, binds, level - 1, c, n) {
-        Typed::Type(d, t) => {
-            record::set_node_type(m, n, t);
-            Typed::Type(d, t)
-        }
-        Typed::Refused(d, k, p) => Typed::Refused(d, k, p),
-    }
+    let z = rule(rows, cells, m, binds, level - 1, c, n);
+    write_down(m, n, z);
+    z
 }

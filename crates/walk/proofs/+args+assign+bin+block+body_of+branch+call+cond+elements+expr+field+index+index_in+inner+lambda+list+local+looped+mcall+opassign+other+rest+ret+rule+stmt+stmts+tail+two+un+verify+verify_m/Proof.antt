@@ -99,7 +99,7 @@ use Rattle.nodes.proofs.item.Reads as item-reads
 use Rattle.nodes.proofs.let_of.Reads as let-of-reads
 use Rattle.nodes.proofs.output.Reads as output-reads
 use Rattle.nodes.proofs.view.Reads as view-reads
-use Rattle.record.proofs.set_node_type.Reads as set-node-type-reads
+use Rattle.walk.proofs.write_down.Reads as write-down-reads
 use Rattle.rules.proofs.amounts.Reads as amounts-reads
 use Rattle.rules.proofs.argument.Reads as argument-reads
 use Rattle.rules.proofs.assign.Reads as assign-reads
@@ -137,7 +137,7 @@ use Rattle.record.specs.Loops.{Onto}
 use Rattle.rules.specs.Answers.{tables}
 use Rattle.walk.specs.Walk.{typeck-expr}
 use Rattle.walk.specs.Walk as rules
-use Rattle.walk.proofs.Laws.{args-first, args-last, args-next, args-refused, args-stop, assign-off, assign-on, bin-off, bin-on, block-not, block-off, block-on, block-there, branches-off, branches-on, call-none, call-off, call-on, callee-is, callee-not, element-is, element-not, elements-first, elements-last, elements-next, elements-refused, elements-stop, else-absent, else-off, else-on, expr-none, expr-off, expr-on, field-off, field-on, if-off, if-on, index-in-off, index-in-on, index-none, index-off, index-on, inner-off, inner-on, lambda-on, list-empty, list-off, list-on, local-absent, local-off, local-on, loop-off, loop-on, meth-call-none, meth-call-off, meth-call-on, method-is, method-not, op-assign-off, op-assign-on, pair-refused, pair-types, rest-off, rest-on, return-absent, return-off, return-on, rule-by, stmt-expr, stmt-let, stmt-off, stmts-first, stmts-last, stmts-next, stmts-stop, tail-absent, tail-of, two-both, two-first, two-second, un-off, un-on, verify-m-args, verify-m-on, verify-m-receiver, verify-off, verify-on}
+use Rattle.walk.proofs.Laws.{args-first, args-last, args-next, args-refused, args-stop, assign-off, assign-on, bin-off, bin-on, block-not, block-off, block-on, block-there, branches-off, branches-on, call-none, call-off, call-on, callee-is, callee-not, element-is, element-not, elements-first, elements-last, elements-next, elements-refused, elements-stop, else-absent, else-off, else-on, expr-none, expr-written, field-off, field-on, if-off, if-on, index-in-off, index-in-on, index-none, index-off, index-on, inner-off, inner-on, lambda-on, list-empty, list-off, list-on, local-absent, local-off, local-on, loop-off, loop-on, meth-call-none, meth-call-off, meth-call-on, method-is, method-not, op-assign-off, op-assign-on, pair-refused, pair-types, rest-off, rest-on, return-absent, return-off, return-on, rule-by, stmt-expr, stmt-let, stmt-off, stmts-first, stmts-last, stmts-next, stmts-stop, tail-absent, tail-of, two-both, two-first, two-second, un-off, un-on, verify-m-args, verify-m-on, verify-m-receiver, verify-off, verify-on}
 
 abbrev μ-args : Measures 3 args-kinds.ps ℕ
 μ-args κs a = a .1 .1 .1 .1 .0 * 16 + 1
@@ -579,19 +579,15 @@ elements-met t =
     (λ c. (c .before .loop .inv .1))
     (λ c. ruled-done (elements-last _ _ _ _ _ _ _ ((c .loop-test .left)) ((c .before .loop .inv .0))))
 
-expr-met : {M : Type 1} (t : ℕ) → expr-lts.Closed (rule-below t, rule.Post, set-node-type-reads.Asked, set-node-type-reads.Learnt) (expr-at t) expr.Post M
+expr-met : {M : Type 1} (t : ℕ) → expr-lts.Closed (rule-below t, rule.Post, write-down-reads.Asked, write-down-reads.Learnt) (expr-at t) expr.Post M
 expr-met t =
-    expr-lts.spec (rule-below t, rule.Post, set-node-type-reads.Asked, set-node-type-reads.Learnt) (expr-at t) expr.Post
+    expr-lts.spec (rule-below t, rule.Post, write-down-reads.Asked, write-down-reads.Learnt) (expr-at t) expr.Post
     (λ c. typed-type (expr-none _ _ _ ((c .if1 .taken))))
     (λ c. search needs)
     (λ c κs. omega (arith, (c .before .before .before .before .before .pre .0)))
-    (λ c. search needs)
     (λ c κs. search needs)
     (λ c. search needs)
-    (λ c. search needs)
-    (λ c. typed-type (expr-on _ _ _ _ ((c .before .before .before .before .before .before .before .before .before .before .before .if1 .left)) (type-is ((c .before .before .before .before .before .d .given .1)) ((c .before .before .before .before .before .before .before .before .before .rule .ensures))) ((c .before .before .set-node-type .ensures) _)))
-    (λ c. search needs)
-    (λ c. typed-refused (expr-off _ _ _ _ _ ((c .before .before .before .before .before .before .before .if1 .left)) (type-refused ((c .before .d2 .given .1)) ((c .before .before .before .before .before .rule .ensures)))))
+    (λ c. expr-written _ _ _ ((c .before .before .before .before .before .before .before .before .if1 .left)) ((c .before .before .before .before .before .before .rule .ensures)) ((c .before .before .write-down .ensures)))
 
 field-met : {M : Type 1} (t : ℕ) → field-lts.Closed (expr-below t, expr.Post, field-reads.Asked, field-reads.Learnt) (field-at t) field.Post M
 field-met t =
