@@ -89,6 +89,37 @@ module _ (w : ℕ) (s : List ℕ) (i c : ℕ) (inv : w ≡ i + before c (drop i 
   unfolding before
   passed h q = inv ∙ rw (next s i (getD s i 0) h refl, ne-eqb (getD s i 0) c q) (omega arith)
 
+-- the bytes before the first c
+abbrev pub part : ℕ → List ℕ → List ℕ
+part c l = take (before c l) l
+
+-- a field that does not begin with 0 or a comma is a number by its digits
+no-zero : (s : List ℕ) (p : ℕ) → p < length s → (getD s p 0 ≡ 48 → ⊥) → (getD s p 0 ≡ 44 → ⊥) → numberOf (part 44 (drop p s)) ≡ digitsFrom 0 (part 44 (drop p s))
+unfolding before
+no-zero s p h z q = rw (next s p (getD s p 0) h refl, ne-eqb (getD s p 0) 44 q) (plain (getD s p 0 ∷ take (before 44 (drop (p + 1) s)) (drop (p + 1) s)) z (λ e. omega (arith, e)))
+
+-- the digits of a field from p on, where they come down to those from i on
+module _ (s : List ℕ) (p n i : ℕ) (inv : digitsFrom 0 (part 44 (drop p s)) ≡ digitsFrom n (part 44 (drop i s))) where
+  pub digit-of : (x : ℕ) → i < length s → x ≡ getD s i 0 → (getD s i 0 ≡ 44 → ⊥) → 48 ≤ x → x ≤ 57 → digitsFrom 0 (part 44 (drop p s)) ≡ digitsFrom (n * 10 + (x - 48)) (part 44 (drop (i + 1) s))
+  unfolding digitsFrom before
+  digit-of x h e q l u = inv ∙ rw (next s i x h e, ne-eqb x 44 (λ z. q (sym e ∙ z)), le-leb 48 x l, le-leb x 57 u)
+
+  module _ (b : p + before 44 (drop p s) ≡ i + before 44 (drop i s)) (h : p < length s) (z : getD s p 0 ≡ 48 → ⊥) (q : getD s p 0 ≡ 44 → ⊥) (m : n ≤ 65535) where
+    -- a field that ends at i
+    to-end : p + before 44 (drop p s) ≡ i → part 44 (drop i s) ≡ [] → numberOf (take (i - p) (drop p s)) ≡ Is n
+    unfolding digitsFrom
+    to-end a e = rw (← a, add-sub-cancel-left p (before 44 (drop p s))) (no-zero s p h z q ∙ inv ∙ rw (e, le-leb n 65535 m))
+
+    -- at a comma
+    pub number-comma : i < length s → getD s i 0 ≡ 44 → numberOf (take (i - p) (drop p s)) ≡ Is n
+    unfolding before
+    number-comma l e = to-end (found (p + before 44 (drop p s)) s i 44 b l e) (rw (next s i (getD s i 0) l refl, eq-eqb (getD s i 0) 44 e))
+
+    -- at the end of the line
+    pub number-end : length s ≤ i → numberOf (take (i - p) (drop p s)) ≡ Is n
+    unfolding before
+    number-end l = to-end (none (p + before 44 (drop p s)) s i 44 b l) (rw (drop-of-length-le s l))
+
 -- a word, w, where it comes down to the rest from i
 module _ (w : ℕ) (s : List ℕ) (a i : ℕ) (inv : w ≡ packFrom a (drop i s)) where
   pub letter-at : (x : ℕ) → i < length s → x ≡ getD s i 0 → a < 72057594037927936 → (x ≡ 0 → ⊥) → x < 256 → w ≡ packFrom (a * 256 + x) (drop (i + 1) s)

@@ -2,7 +2,7 @@
 ghost use mathlib.Core.Path.{_≡_};
 ghost use Prim.Native.Nat.{_+_, _<_, _≤_};
 ghost use lib.ListN.{length, drop};
-ghost use Rattle.lex.specs.Text.{numberOf, digitsFrom, before, pack};
+ghost use Rattle.lex.specs.Text.{numberOf, digitsFrom, before, pack, Scanned};
 
 // What a field holds, read as a number.
 pub enum Num {
@@ -52,6 +52,47 @@ fn digits(s: &[u8]) -> Num
         i += 1;
     }
     Num::Is(n as u16)
+}
+
+// What a field is, as far as one pass over it says: a number, with the place of its end, or anything else.
+pub enum Field {
+    Number(u16, usize),
+    Other,
+}
+
+// The field that starts at p, where it is a number that does not begin with 0.
+pub fn scan(s: &[u8], p: usize) -> Field
+    ensures { λ r. ⌜ Scanned (now (s .entry)) p r ⌝ }
+{
+    if s.len() <= p {
+        return Field::Other;
+    }
+    if s[p] == 48 {
+        return Field::Other;
+    }
+    if s[p] == 44 {
+        return Field::Other;
+    }
+    let mut n: u32 = 0;
+    let mut i = p;
+    while i < s.len() {
+        if s[i] == 44 {
+            return Field::Number(n as u16, i);
+        }
+        let d = wide(s[i]);
+        if d < 48 {
+            return Field::Other;
+        }
+        if 57 < d {
+            return Field::Other;
+        }
+        n = n * 10 + (d - 48);
+        if 65535 < n {
+            return Field::Other;
+        }
+        i += 1;
+    }
+    Field::Number(n as u16, i)
 }
 
 // The end of the field that starts at p: the next separator, or the end.
