@@ -89,6 +89,35 @@ module _ (w : ℕ) (s : List ℕ) (i c : ℕ) (inv : w ≡ i + before c (drop i 
   unfolding before
   passed h q = inv ∙ rw (next s i (getD s i 0) h refl, ne-eqb (getD s i 0) c q) (omega arith)
 
+-- the end of a field, w, by four bytes from i on
+module _ (w : ℕ) (s : List ℕ) (i c : ℕ) (inv : w ≡ i + before c (drop i s)) (h : 4 ≤ length s - i) where
+  pub found-1 : getD s i 0 ≡ c → w ≡ i
+  found-1 e = found w s i c inv (omega arith) e
+
+  module _ (n : getD s i 0 ≡ c → ⊥) where
+    past-1 : w ≡ i + 1 + before c (drop (i + 1) s)
+    past-1 = passed w s i c inv (omega arith) n
+
+    pub found-2 : getD s (i + 1) 0 ≡ c → w ≡ i + 1
+    found-2 e = found w s (i + 1) c past-1 (omega arith) e
+
+    module _ (o : getD s (i + 1) 0 ≡ c → ⊥) where
+      past-2 : w ≡ i + 1 + 1 + before c (drop (i + 1 + 1) s)
+      past-2 = passed w s (i + 1) c past-1 (omega arith) o
+
+      pub found-3 : getD s (i + 1 + 1) 0 ≡ c → w ≡ i + 1 + 1
+      found-3 e = found w s (i + 1 + 1) c past-2 (omega arith) e
+
+      module _ (q : getD s (i + 1 + 1) 0 ≡ c → ⊥) where
+        past-3 : w ≡ i + 1 + 1 + 1 + before c (drop (i + 1 + 1 + 1) s)
+        past-3 = passed w s (i + 1 + 1) c past-2 (omega arith) q
+
+        pub found-4 : getD s (i + 1 + 1 + 1) 0 ≡ c → w ≡ i + 1 + 1 + 1
+        found-4 e = found w s (i + 1 + 1 + 1) c past-3 (omega arith) e
+
+        pub past-4 : (getD s (i + 1 + 1 + 1) 0 ≡ c → ⊥) → w ≡ i + 1 + 1 + 1 + 1 + before c (drop (i + 1 + 1 + 1 + 1) s)
+        past-4 r = passed w s (i + 1 + 1 + 1) c past-3 (omega arith) r
+
 -- the bytes before the first c
 abbrev pub part : ℕ → List ℕ → List ℕ
 part c l = take (before c l) l
