@@ -214,15 +214,15 @@ judged i f t at (cells l) = rw (zero-add (length l)) (go (ltb (length l) (f .4))
     go false false = refl
 
 -- a line
-module _ (k e w i at : ℕ) (v t : List ℕ) (eq : e ≡ 0 + before 44 v) (wq : w ≡ pack (take (e - 0) v)) (iq : i ≡ indexNumbered k w forms) where
+module _ (k e w i at : ℕ) (v t : List ℕ) (eq : e ≡ before 44 v) (wq : w ≡ pack (take e v)) (iq : i ≡ indexNumbered k w forms) where
   -- the end of the word
   at-comma : before 44 v ≡ e
-  at-comma = sym (eq ∙ zero-add (before 44 v))
+  at-comma = sym eq
 
   -- the form that was found is the line's
   the-form : formOf k v ≡ i
   unfolding formOf
-  the-form = rw (at-comma, iq, wq, sub-zero e) (sym (form-by-number k (take e v)))
+  the-form = rw (at-comma, iq, wq) (sym (form-by-number k (take e v)))
 
   -- no form of its key and word
   pub no-line : 30 ≤ i → lay (parseLine k v) t at ≡ faulty fault.Form

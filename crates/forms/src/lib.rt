@@ -540,8 +540,9 @@ pub fn read_line(k: u8, v: &[u8], t: &mut [u16], at: usize) -> Line
     ensures within { λ r. ⌜ widthOf r ≤ length (now (v .entry)) + 1 ⌝ }
     ensures { λ r. ⌜ shown r (now (t .exit)) ≡ lay (parseLine k (now (v .entry))) (now (t .entry)) at ⌝ }
 {
-    let e = lex::field_end(v, 0, 44);
-    let i = form_index(k, lex::pack(&v[0..e]));
+    let w = lex::word_to(v, 44);
+    let e = w.end;
+    let i = form_index(k, w.number);
     if MOST_FORMS <= i {
         return Line::Fault(Fault::Form);
     }

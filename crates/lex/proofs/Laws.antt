@@ -167,6 +167,35 @@ module _ (w : ℕ) (s : List ℕ) (a i : ℕ) (inv : w ≡ packFrom a (drop i s)
   unfolding packFrom
   long h l = inv ∙ rw (next s i (getD s i 0) h refl, le-ltb a 72057594037927936 l)
 
+-- the word before the first c, where its number comes down to the rest from i
+module _ (s : List ℕ) (c a i : ℕ) (inv : packFrom 0 (part c s) ≡ packFrom a (part c (drop i s))) where
+  pub letter-of : (x : ℕ) → i < length s → x ≡ getD s i 0 → (getD s i 0 ≡ c → ⊥) → a < 72057594037927936 → (x ≡ 0 → ⊥) → x < 256 → packFrom 0 (part c s) ≡ packFrom (a * 256 + x) (part c (drop (i + 1) s))
+  unfolding packFrom letter before
+  letter-of x h e q l n r = inv ∙ rw (next s i x h e, ne-eqb x c (λ z. q (sym e ∙ z)), lt-ltb a 72057594037927936 l, ne-eqb x 0 n, lt-ltb x 256 r)
+
+  module _ (b : before c s ≡ i + before c (drop i s)) where
+    -- it ends at i
+    pub word-end : i < length s → getD s i 0 ≡ c → a ≡ packFrom 0 (take i s)
+    unfolding packFrom before
+    word-end h e = rw (← found (before c s) s i c b h e) (sym (inv ∙ rw (next s i (getD s i 0) h refl, eq-eqb (getD s i 0) c e)))
+
+    pub word-all : length s ≤ i → a ≡ packFrom 0 (take i s)
+    unfolding packFrom before
+    word-all h = rw (← none (before c s) s i c b h) (sym (inv ∙ rw (drop-of-length-le s h)))
+
+    -- it has no number
+    module _ (e : ℕ) (d : e ≡ i + before c (drop i s)) (h : i < length s) (q : getD s i 0 ≡ c → ⊥) where
+      pub word-at : e ≡ before c s
+      word-at = d ∙ sym b
+
+      pub word-long : 72057594037927936 ≤ a → 0 ≡ packFrom 0 (take e s)
+      unfolding packFrom before
+      word-long l = rw word-at (sym (inv ∙ rw (next s i (getD s i 0) h refl, ne-eqb (getD s i 0) c q, le-ltb a 72057594037927936 l)))
+
+      pub word-nul : (x : ℕ) → x ≡ getD s i 0 → a < 72057594037927936 → x ≡ 0 → 0 ≡ packFrom 0 (take e s)
+      unfolding packFrom letter before
+      word-nul x f l n = rw word-at (sym (inv ∙ rw (next s i x h f, ne-eqb x c (λ z. q (sym f ∙ z)), lt-ltb a 72057594037927936 l, eq-eqb x 0 n)))
+
 -- a list's first part, and the parts behind it
 split-first : (c : ℕ) (l : List ℕ) → split c l ≡ take (before c l) l ∷ cond (ltb (before c l) (length l)) (split c (drop (suc (before c l)) l)) []
 unfolding split before

@@ -1,7 +1,7 @@
 // The lexical layer of a line: numbers, fields and words of a part of the input.
 ghost use mathlib.Core.Path.{_≡_};
 ghost use Prim.Native.Nat.{_+_, _<_, _≤_};
-ghost use lib.ListN.{length, drop};
+ghost use lib.ListN.{length, take, drop};
 ghost use Rattle.lex.specs.Text.{numberOf, digitsFrom, before, pack, Scanned};
 
 // What a field holds, read as a number.
@@ -154,4 +154,40 @@ pub fn pack(s: &[u8]) -> u64
         i += 1;
     }
     a
+}
+
+// The word at the start of a line: where it ends, and its number.
+pub struct Word {
+    pub end: usize,
+    pub number: u64,
+}
+
+// The word before the first separator, in one pass.
+pub fn word_to(s: &[u8], c: u8) -> Word
+    ensures within { λ r. ⌜ r .end ≤ length (now (s .entry)) ⌝ }
+    ensures { λ r. ⌜ (r .end ≡ before c (now (s .entry))) × (r .number ≡ pack (take (r .end) (now (s .entry)))) ⌝ }
+{
+    let mut a: u64 = 0;
+    let mut i = 0;
+    while i < s.len() {
+        if s[i] == c {
+            return Word { end: i, number: a };
+        }
+        if 72057594037927936 <= a {
+            return Word {
+                end: field_end(s, i, c),
+                number: 0,
+            };
+        }
+        let y = wider(s[i]);
+        if y == 0 {
+            return Word {
+                end: field_end(s, i, c),
+                number: 0,
+            };
+        }
+        a = a * 256 + y;
+        i += 1;
+    }
+    Word { end: i, number: a }
 }
