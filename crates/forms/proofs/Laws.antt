@@ -1,21 +1,26 @@
 -- Laws of the definitions in specs/Form.antt: each way of writing a field, a cell in the table, one turn of the loop over a line's fields, and a line.
 -- Assumes nothing.
-use Prim.Native.Nat.{ℕ, _+_, _*_, _-_, _<_, _≤_, zero-le}
+use Prim.Native.Nat.{ℕ, _+_, _*_, _-_, _/_, _<_, _≤_, zero-le}
 use mathlib.Core.Path.{_≡_, refl, ap, ap₂, sym, _∙_}
 use mathlib.Core.Bool.{Bool, true, false, cond}
+use mathlib.Core.Logic.{_⊎_, inl, inr}
 use mathlib.Core.List.{List, [], _∷_}
-use native.Mathlib.Nat.{zero-add, add-zero, sub-zero}
+use native.Mathlib.Nat.{zero-add, add-zero, sub-zero, add-sub-cancel-left}
 use native.Mathlib.Numerals.{add-one, add-two}
 use native.Mathlib.Omega.{arith}
 use lib.Dec.{eqb, ltb}
 use lib.ListN.{length, getD, take, drop, set, drop-of-length-le, length-drop, List·getD-eq-default}
 use lib.Seq.{take-all}
-use borrow.Author.Tests.{lt-ltb, le-ltb, lt-leb, le-leb, ne-eqb}
-use Rattle.lex.specs.Text.{numberOf, before, fieldsFrom, pack}
+use borrow.Author.Tests.{lt-ltb, le-ltb, lt-leb, le-leb, ne-eqb, eqb-true, eqb-false}
+use Rattle.lex.specs.Text.{numberOf, digitsFrom, before, fieldsFrom, pack, Scanned}
 use Rattle.lex.proofs.Laws.{first-part, no-part}
 use Rattle.lex.specs.declared.Num.{Num}
 use Rattle.lex.specs.declared.Num.the-variants as num
+use Rattle.lex.specs.declared.Field.{Field}
+use Rattle.lex.specs.declared.Field.the-variants as field
 use Rattle.forms.specs.declared.Form.{Form}
+use Rattle.forms.specs.declared.Taken.{Taken}
+use Rattle.forms.specs.declared.Taken.the-variants as taken
 use Rattle.forms.specs.declared.Got.{Got}
 use Rattle.forms.specs.declared.Got.the-variants as got
 use Rattle.forms.specs.declared.Fault.the-variants as fault
@@ -24,7 +29,7 @@ use Rattle.forms.specs.declared.Line.the-variants as line
 use Rattle.forms.specs.declared.Cell.{Cell}
 use Rattle.forms.specs.declared.Read.{Read}
 use Rattle.forms.specs.declared.Read.the-variants.{Is, Bad}
-use Rattle.forms.specs.Form.{LineForm, forms, no-form, formAt, readAs, readOf, valued, named, letterOf, optionalOf, binaryOf, unaryOf, tagOf, taggedOf, resolutionOf, behindOf, pairOf, kindAt, Cells, refused, cells, prepend, cellsFrom, store, storeFrom, Filled, unfilled, filled, fill, formOf, counted, withCells, parseLine, startOf, countOf, Laid, faulty, lay, shown, outcome, countIn, widthOf}
+use Rattle.forms.specs.Form.{LineForm, forms, no-form, formAt, readAs, readOf, cell, ending, fieldAt, endIn, valued, named, letterOf, optionalOf, binaryOf, unaryOf, tagOf, taggedOf, resolutionOf, behindOf, pairOf, kindAt, Cells, refused, cells, prepend, cellsFrom, store, storeFrom, Filled, unfilled, filled, fill, formOf, counted, withCells, parseLine, startOf, countOf, Laid, faulty, lay, shown, outcome, countIn, widthOf}
 use Rattle.forms.specs.Words.{indexNumbered, form-by-number}
 
 -- a field read by its class
@@ -107,18 +112,80 @@ pub not-stored : (t : List ℕ) (j : ℕ) (c : Cell) → length t < j * 3 + 3 �
 unfolding store
 not-stored t j c h = simp (lt-leb (j * 3 + 3) (length t) h)
 
+-- a number is not `-`
+no-dash : (s : List ℕ) (n : ℕ) → numberOf s ≡ num.Is n → letterOf s ≡ 45 → ⊥
+unfolding numberOf digitsFrom letterOf
+no-dash [] n h e = omega (arith, e)
+no-dash (x ∷ []) n h e = let y : num.Bad ≡ num.Is n = rw e at h in let z : _≡_ {A = ℕ} 0 1 = cc in omega arith
+no-dash (x ∷ y ∷ ys) n h e = omega (arith, rw (ne-eqb (length (x ∷ y ∷ ys)) 1 (λ z. omega (arith, z))) at e)
+
+-- a number is read by the first two classes
+number-class : (c n : ℕ) (s : List ℕ) → (c ≡ 1) ⊎ (c ≡ 2) → numberOf s ≡ num.Is n → readAs c s ≡ Is (cell 0 1 n)
+unfolding readAs optionalOf
+number-class c n s (inl q) h = rw (q, h)
+number-class c n s (inr q) h = rw (q, ne-eqb (letterOf s) 45 (no-dash s n h), h)
+
+number-read : (k n : ℕ) (s : List ℕ) → 16 ≤ k → k < 48 → numberOf s ≡ num.Is n → readOf k s ≡ Is (cell 0 1 n)
+number-read k n s l u h = number-class (k / 16) n s (by (eqb (k / 16) 1) refl) h
+  where
+    by : (b : Bool) → eqb (k / 16) 1 ≡ b → (k / 16 ≡ 1) ⊎ (k / 16 ≡ 2)
+    by true q = inl (eqb-true (k / 16) 1 q)
+    by false q = inr (omega (arith, eqb-false (k / 16) 1 q))
+
+-- the field of the kind k from the place p on
+module _ (k p : ℕ) (v : List ℕ) where
+  -- by its end
+  field-to : (e : ℕ) → e ≡ p + before 44 (drop p v) → fieldAt k v p ≡ ending e (readOf k (take (e - p) (drop p v)))
+  unfolding fieldAt
+  field-to e q = rw (q, add-sub-cancel-left p (before 44 (drop p v)))
+
+  -- a number that was found in one pass
+  pub scanned : (s : Field) (n e : ℕ) (c : Cell) → 16 ≤ k → k < 48 → Scanned v p s → s ≡ field.Number n e → c ≡ cell 0 1 n
+      → ((p ≤ e) × (e ≤ length v)) × (taken.Is c e ≡ fieldAt k v p)
+  scanned s n e c l u d q m =
+      let t : Scanned v p (field.Number n e) = rw q at d in
+      (t .0, sym (field-to e (t .1) ∙ rw (number-read k n (take (e - p) (drop p v)) l u (t .2), m)))
+
+  module _ (e : ℕ) (q : e ≡ p + before 44 (drop p v)) (r : Read) (d : r ≡ readOf k (take (e - p) (drop p v))) where
+    -- a field of its kind
+    pub taken-is : (c : Cell) → r ≡ Is c → taken.Is c e ≡ fieldAt k v p
+    taken-is c m = sym (field-to e q ∙ rw (← d, m))
+
+    -- a field that is not
+    pub taken-bad : r ≡ Bad → taken.Bad ≡ fieldAt k v p
+    taken-bad m = sym (field-to e q ∙ rw (← d, m))
+
+-- what was read, by the field and its end
+ending-bad : (e : ℕ) (r : Read) → taken.Bad ≡ ending e r → r ≡ Bad
+ending-bad e (Is c) q = let z : _≡_ {A = ℕ} 0 1 = cc in absurd (omega arith)
+ending-bad e Bad q = refl
+
+ending-is : (e n : ℕ) (r : Read) (c : Cell) → taken.Is c n ≡ ending e r → (r ≡ Is c) × (n ≡ e)
+ending-is e n (Is d) c q = ((cc), (cc))
+ending-is e n Bad c q = let z : _≡_ {A = ℕ} 0 1 = cc in absurd (omega arith)
+
+-- the bounds of the end
+pub end-bounds : (p n e : ℕ) (r : Taken) (c : Cell) → r ≡ taken.Is c e → (p ≤ endIn p r) × (endIn p r ≤ n) → (p ≤ e) × (e ≤ n)
+end-bounds p n e r c q h = rw q at h
+
 -- one turn of the loop over the fields, where the fields from p on are still to be read and w is the whole answer
 module _ (w : Filled) (v : List ℕ) (f : Form) (i p at : ℕ) (t : List ℕ) (inv : w ≡ fill i t (at + i) (cellsFrom f i (fieldsFrom p v))) where
-  module _ (e k : ℕ) (r : Read) (h : p ≤ length v) (q : e ≡ p + before 44 (drop p v)) (kq : k ≡ kindAt f i) (rq : r ≡ readOf k (take (e - p) (drop p v))) where
+  module _ (k : ℕ) (r : Taken) (h : p ≤ length v) (kq : k ≡ kindAt f i) (rq : r ≡ fieldAt k v p) where
     -- a field that is not of its kind
-    pub turn-bad : r ≡ Bad → w ≡ unfilled
+    pub turn-bad : r ≡ taken.Bad → w ≡ unfilled
     unfolding fill cellsFrom
-    turn-bad b = inv ∙ rw (first-part 44 v p e h q, ← kq, ← rq, b)
+    turn-bad b =
+        let e : ℕ = p + before 44 (drop p v) in
+        let d : readOf k (take (e - p) (drop p v)) ≡ Bad = ending-bad e _ (sym b ∙ rq ∙ field-to k p v e refl) in
+        inv ∙ rw (first-part 44 v p e h refl, ← kq, d)
 
     -- a field of its kind, stored
-    pub turn : (c : Cell) (u : List ℕ) → r ≡ Is c → u ≡ store t (at + i) c → w ≡ fill (i + 1) u (at + (i + 1)) (cellsFrom f (i + 1) (fieldsFrom (e + 1) v))
+    pub turn : (c : Cell) (e : ℕ) (u : List ℕ) → r ≡ taken.Is c e → u ≡ store t (at + i) c → w ≡ fill (i + 1) u (at + (i + 1)) (cellsFrom f (i + 1) (fieldsFrom (e + 1) v))
     unfolding fill cellsFrom storeFrom
-    turn c u b s = inv ∙ rw (first-part 44 v p e h q, ← kq, ← rq, b, s) (go (cellsFrom f (i + 1) (fieldsFrom (e + 1) v)))
+    turn c n u b s =
+        let e : ℕ = p + before 44 (drop p v) in
+        let d : (readOf k (take (e - p) (drop p v)) ≡ Is c) × (n ≡ e) = ending-is e n _ c (sym b ∙ rq ∙ field-to k p v e refl) in
+        inv ∙ rw (first-part 44 v p e h refl, ← kq, d .0, s, d .1) (go (cellsFrom f (i + 1) (fieldsFrom (e + 1) v)))
       where
         go : (l : Cells) → fill i t (at + i) (prepend (Is c) l) ≡ fill (i + 1) (store t (at + i) c) (at + (i + 1)) l
         go refused = refl
@@ -147,15 +214,15 @@ judged i f t at (cells l) = rw (zero-add (length l)) (go (ltb (length l) (f .4))
     go false false = refl
 
 -- a line
-module _ (k e w i at : ℕ) (v t : List ℕ) (eq : e ≡ 0 + before 44 v) (wq : w ≡ pack (take (e - 0) v)) (iq : i ≡ indexNumbered k w forms) where
+module _ (k e w i at : ℕ) (v t : List ℕ) (eq : e ≡ before 44 v) (wq : w ≡ pack (take e v)) (iq : i ≡ indexNumbered k w forms) where
   -- the end of the word
   at-comma : before 44 v ≡ e
-  at-comma = sym (eq ∙ zero-add (before 44 v))
+  at-comma = sym eq
 
   -- the form that was found is the line's
   the-form : formOf k v ≡ i
   unfolding formOf
-  the-form = rw (at-comma, iq, wq, sub-zero e) (sym (form-by-number k (take e v)))
+  the-form = rw (at-comma, iq, wq) (sym (form-by-number k (take e v)))
 
   -- no form of its key and word
   pub no-line : 30 ≤ i → lay (parseLine k v) t at ≡ faulty fault.Form

@@ -15,6 +15,8 @@ use Rattle.forms.specs.declared.Form.{Form}
 use Rattle.forms.specs.declared.Cell.{Cell}
 use Rattle.forms.specs.declared.Read.{Read}
 use Rattle.forms.specs.declared.Read.the-variants.{Is, Bad}
+use Rattle.forms.specs.declared.Taken.{Taken}
+use Rattle.forms.specs.declared.Taken.the-variants as taken
 use Rattle.forms.specs.declared.Got.{Got}
 use Rattle.forms.specs.declared.Got.the-variants as got
 use Rattle.forms.specs.declared.Fault.{Fault}
@@ -282,6 +284,20 @@ readAs c s =
 -- a field of a kind
 abbrev pub readOf : ℕ → List ℕ → Read
 readOf k s = readAs (k / 16) s
+
+-- what a field holds, with the place e of its end
+abbrev pub ending : ℕ → Read → Taken
+ending e (Is c) = taken.Is c e
+ending e Bad = taken.Bad
+
+-- the field of the kind k from the place p on
+unfoldable pub fieldAt : ℕ → List ℕ → ℕ → Taken
+fieldAt k v p = ending (p + before 44 (drop p v)) (readOf k (take (before 44 (drop p v)) (drop p v)))
+
+-- where it ends, p where it is not of its kind
+abbrev pub endIn : ℕ → Taken → ℕ
+endIn p (taken.Is c e) = e
+endIn p taken.Bad = p
 
 -- the cells of some fields, where each is of its kind
 pub data Cells : Type 0 where

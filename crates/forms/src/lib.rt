@@ -1,11 +1,12 @@
 // Reads a line's value by a table of forms: FORMS has the kinds of each form's fields, and one loop reads every form.
+use lex::Field;
 use lex::Num;
 ghost use mathlib.Core.Path.{_≡_};
 ghost use Prim.Native.Nat.{_+_, _≤_, _<_};
 ghost use lib.ListN.{length, drop};
 ghost use Rattle.lex.specs.declared.Num.the-variants as num;
 ghost use Rattle.lex.specs.Text.{numberOf, fieldsFrom};
-ghost use Rattle.forms.specs.Form.{forms as forms·T, key-type, key-node, formAt, kindAt, readAs, readOf, optionalOf, binaryOf, unaryOf, resolutionOf, pairOf, behindOf, store, cellsFrom, fill, outcome, letterOf, tagOf, taggedOf, named, countOf, startOf, shown, lay, parseLine, countIn, widthOf};
+ghost use Rattle.forms.specs.Form.{forms as forms·T, key-type, key-node, formAt, kindAt, readAs, readOf, optionalOf, binaryOf, unaryOf, resolutionOf, pairOf, behindOf, store, fieldAt, endIn, cellsFrom, fill, outcome, letterOf, tagOf, taggedOf, named, countOf, startOf, shown, lay, parseLine, countIn, widthOf};
 ghost use Rattle.forms.specs.Words.{keyNumbered, indexNumbered};
 
 // The keys, in the order in which they come. NO_KEY is any other word.
@@ -133,6 +134,12 @@ pub struct Cell {
 
 pub enum Read {
     Is(Cell),
+    Bad,
+}
+
+// What the field that starts at a place holds, and where it ends.
+pub enum Taken {
+    Is(Cell, usize),
     Bad,
 }
 
@@ -445,6 +452,26 @@ fn read_as(k: u8, s: &[u8]) -> Read
     read_class(k / 16, s)
 }
 
+// The field of the kind k that starts at p: one pass over it where it is a number, or else its end first.
+fn field(k: u8, v: &[u8], p: usize) -> Taken
+    requires { ⌜ p ≤ length (now v) ⌝ }
+    ensures within { λ r. ⌜ (p ≤ endIn p r) × (endIn p r ≤ length (now (v .entry))) ⌝ }
+    ensures { λ r. ⌜ r ≡ fieldAt k (now (v .entry)) p ⌝ }
+{
+    if 16 <= k {
+        if k < 48 {
+            if let Field::Number(n, e) = lex::scan(v, p) {
+                return Taken::Is(nameless(1, n), e);
+            }
+        }
+    }
+    let e = lex::field_end(v, p, 44);
+    match read_as(k, &v[p..e]) {
+        Read::Is(c) => Taken::Is(c, e),
+        Read::Bad => Taken::Bad,
+    }
+}
+
 // A cell at its place of the table of fields, where it is in it.
 fn put_cell(t: &mut [u16], j: usize, c: Cell)
     requires { ⌜ j ≤ 16777216 ⌝ }
@@ -466,9 +493,8 @@ fn fields(v: &[u8], start: usize, f: Form, t: &mut [u16], at: usize) -> Got
     let mut p = start;
     let mut i = 0;
     while p <= v.len() {
-        let e = lex::field_end(v, p, 44);
         let k = kind_at(f, i);
-        let Read::Is(c) = read_as(k, &v[p..e]) else {
+        let Taken::Is(c, e) = field(k, v, p) else {
             return Got::Bad;
         };
         put_cell(t, at + i, c);
@@ -514,8 +540,9 @@ pub fn read_line(k: u8, v: &[u8], t: &mut [u16], at: usize) -> Line
     ensures within { λ r. ⌜ widthOf r ≤ length (now (v .entry)) + 1 ⌝ }
     ensures { λ r. ⌜ shown r (now (t .exit)) ≡ lay (parseLine k (now (v .entry))) (now (t .entry)) at ⌝ }
 {
-    let e = lex::field_end(v, 0, 44);
-    let i = form_index(k, lex::pack(&v[0..e]));
+    let w = lex::word_to(v, 44);
+    let e = w.end;
+    let i = form_index(k, w.number);
     if MOST_FORMS <= i {
         return Line::Fault(Fault::Form);
     }

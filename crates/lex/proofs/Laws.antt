@@ -89,6 +89,66 @@ module _ (w : ℕ) (s : List ℕ) (i c : ℕ) (inv : w ≡ i + before c (drop i 
   unfolding before
   passed h q = inv ∙ rw (next s i (getD s i 0) h refl, ne-eqb (getD s i 0) c q) (omega arith)
 
+-- the end of a field, w, by four bytes from i on
+module _ (w : ℕ) (s : List ℕ) (i c : ℕ) (inv : w ≡ i + before c (drop i s)) (h : 4 ≤ length s - i) where
+  pub found-1 : getD s i 0 ≡ c → w ≡ i
+  found-1 e = found w s i c inv (omega arith) e
+
+  module _ (n : getD s i 0 ≡ c → ⊥) where
+    past-1 : w ≡ i + 1 + before c (drop (i + 1) s)
+    past-1 = passed w s i c inv (omega arith) n
+
+    pub found-2 : getD s (i + 1) 0 ≡ c → w ≡ i + 1
+    found-2 e = found w s (i + 1) c past-1 (omega arith) e
+
+    module _ (o : getD s (i + 1) 0 ≡ c → ⊥) where
+      past-2 : w ≡ i + 1 + 1 + before c (drop (i + 1 + 1) s)
+      past-2 = passed w s (i + 1) c past-1 (omega arith) o
+
+      pub found-3 : getD s (i + 1 + 1) 0 ≡ c → w ≡ i + 1 + 1
+      found-3 e = found w s (i + 1 + 1) c past-2 (omega arith) e
+
+      module _ (q : getD s (i + 1 + 1) 0 ≡ c → ⊥) where
+        past-3 : w ≡ i + 1 + 1 + 1 + before c (drop (i + 1 + 1 + 1) s)
+        past-3 = passed w s (i + 1 + 1) c past-2 (omega arith) q
+
+        pub found-4 : getD s (i + 1 + 1 + 1) 0 ≡ c → w ≡ i + 1 + 1 + 1
+        found-4 e = found w s (i + 1 + 1 + 1) c past-3 (omega arith) e
+
+        pub past-4 : (getD s (i + 1 + 1 + 1) 0 ≡ c → ⊥) → w ≡ i + 1 + 1 + 1 + 1 + before c (drop (i + 1 + 1 + 1 + 1) s)
+        past-4 r = passed w s (i + 1 + 1 + 1) c past-3 (omega arith) r
+
+-- the bytes before the first c
+abbrev pub part : ℕ → List ℕ → List ℕ
+part c l = take (before c l) l
+
+-- a field that does not begin with 0 or a comma is a number by its digits
+no-zero : (s : List ℕ) (p : ℕ) → p < length s → (getD s p 0 ≡ 48 → ⊥) → (getD s p 0 ≡ 44 → ⊥) → numberOf (part 44 (drop p s)) ≡ digitsFrom 0 (part 44 (drop p s))
+unfolding before
+no-zero s p h z q = rw (next s p (getD s p 0) h refl, ne-eqb (getD s p 0) 44 q) (plain (getD s p 0 ∷ take (before 44 (drop (p + 1) s)) (drop (p + 1) s)) z (λ e. omega (arith, e)))
+
+-- the digits of a field from p on, where they come down to those from i on
+module _ (s : List ℕ) (p n i : ℕ) (inv : digitsFrom 0 (part 44 (drop p s)) ≡ digitsFrom n (part 44 (drop i s))) where
+  pub digit-of : (x : ℕ) → i < length s → x ≡ getD s i 0 → (getD s i 0 ≡ 44 → ⊥) → 48 ≤ x → x ≤ 57 → digitsFrom 0 (part 44 (drop p s)) ≡ digitsFrom (n * 10 + (x - 48)) (part 44 (drop (i + 1) s))
+  unfolding digitsFrom before
+  digit-of x h e q l u = inv ∙ rw (next s i x h e, ne-eqb x 44 (λ z. q (sym e ∙ z)), le-leb 48 x l, le-leb x 57 u)
+
+  module _ (b : p + before 44 (drop p s) ≡ i + before 44 (drop i s)) (h : p < length s) (z : getD s p 0 ≡ 48 → ⊥) (q : getD s p 0 ≡ 44 → ⊥) (m : n ≤ 65535) where
+    -- a field that ends at i
+    to-end : p + before 44 (drop p s) ≡ i → part 44 (drop i s) ≡ [] → numberOf (take (i - p) (drop p s)) ≡ Is n
+    unfolding digitsFrom
+    to-end a e = rw (← a, add-sub-cancel-left p (before 44 (drop p s))) (no-zero s p h z q ∙ inv ∙ rw (e, le-leb n 65535 m))
+
+    -- at a comma
+    pub number-comma : i < length s → getD s i 0 ≡ 44 → numberOf (take (i - p) (drop p s)) ≡ Is n
+    unfolding before
+    number-comma l e = to-end (found (p + before 44 (drop p s)) s i 44 b l e) (rw (next s i (getD s i 0) l refl, eq-eqb (getD s i 0) 44 e))
+
+    -- at the end of the line
+    pub number-end : length s ≤ i → numberOf (take (i - p) (drop p s)) ≡ Is n
+    unfolding before
+    number-end l = to-end (none (p + before 44 (drop p s)) s i 44 b l) (rw (drop-of-length-le s l))
+
 -- a word, w, where it comes down to the rest from i
 module _ (w : ℕ) (s : List ℕ) (a i : ℕ) (inv : w ≡ packFrom a (drop i s)) where
   pub letter-at : (x : ℕ) → i < length s → x ≡ getD s i 0 → a < 72057594037927936 → (x ≡ 0 → ⊥) → x < 256 → w ≡ packFrom (a * 256 + x) (drop (i + 1) s)
@@ -106,6 +166,35 @@ module _ (w : ℕ) (s : List ℕ) (a i : ℕ) (inv : w ≡ packFrom a (drop i s)
   pub long : i < length s → 72057594037927936 ≤ a → w ≡ 0
   unfolding packFrom
   long h l = inv ∙ rw (next s i (getD s i 0) h refl, le-ltb a 72057594037927936 l)
+
+-- the word before the first c, where its number comes down to the rest from i
+module _ (s : List ℕ) (c a i : ℕ) (inv : packFrom 0 (part c s) ≡ packFrom a (part c (drop i s))) where
+  pub letter-of : (x : ℕ) → i < length s → x ≡ getD s i 0 → (getD s i 0 ≡ c → ⊥) → a < 72057594037927936 → (x ≡ 0 → ⊥) → x < 256 → packFrom 0 (part c s) ≡ packFrom (a * 256 + x) (part c (drop (i + 1) s))
+  unfolding packFrom letter before
+  letter-of x h e q l n r = inv ∙ rw (next s i x h e, ne-eqb x c (λ z. q (sym e ∙ z)), lt-ltb a 72057594037927936 l, ne-eqb x 0 n, lt-ltb x 256 r)
+
+  module _ (b : before c s ≡ i + before c (drop i s)) where
+    -- it ends at i
+    pub word-end : i < length s → getD s i 0 ≡ c → a ≡ packFrom 0 (take i s)
+    unfolding packFrom before
+    word-end h e = rw (← found (before c s) s i c b h e) (sym (inv ∙ rw (next s i (getD s i 0) h refl, eq-eqb (getD s i 0) c e)))
+
+    pub word-all : length s ≤ i → a ≡ packFrom 0 (take i s)
+    unfolding packFrom before
+    word-all h = rw (← none (before c s) s i c b h) (sym (inv ∙ rw (drop-of-length-le s h)))
+
+    -- it has no number
+    module _ (e : ℕ) (d : e ≡ i + before c (drop i s)) (h : i < length s) (q : getD s i 0 ≡ c → ⊥) where
+      pub word-at : e ≡ before c s
+      word-at = d ∙ sym b
+
+      pub word-long : 72057594037927936 ≤ a → 0 ≡ packFrom 0 (take e s)
+      unfolding packFrom before
+      word-long l = rw word-at (sym (inv ∙ rw (next s i (getD s i 0) h refl, ne-eqb (getD s i 0) c q, le-ltb a 72057594037927936 l)))
+
+      pub word-nul : (x : ℕ) → x ≡ getD s i 0 → a < 72057594037927936 → x ≡ 0 → 0 ≡ packFrom 0 (take e s)
+      unfolding packFrom letter before
+      word-nul x f l n = rw word-at (sym (inv ∙ rw (next s i x h f, ne-eqb x c (λ z. q (sym f ∙ z)), lt-ltb a 72057594037927936 l, eq-eqb x 0 n)))
 
 -- a list's first part, and the parts behind it
 split-first : (c : ℕ) (l : List ℕ) → split c l ≡ take (before c l) l ∷ cond (ltb (before c l) (length l)) (split c (drop (suc (before c l)) l)) []

@@ -1,14 +1,17 @@
 -- What a number, a field and a word of a line are, over the bytes of the line's value.
 -- Assumes nothing.
-use Prim.Native.Nat.{ℕ, zero, suc, _+_, _*_, _-_}
+use Prim.Native.Nat.{ℕ, zero, suc, _+_, _*_, _-_, _≤_}
 use Prim.Native.String.{String, len, charAt}
 use Prim.Native.Char.{code}
+use mathlib.Core.Path.{_≡_}
 use mathlib.Core.List.{List, [], _∷_}
 use mathlib.Core.Bool.{Bool, true, false, cond}
 use lib.Dec.{leb, ltb, eqb}
-use lib.ListN.{length, drop}
+use lib.ListN.{length, take, drop}
 use Rattle.lex.specs.declared.Num.{Num}
 use Rattle.lex.specs.declared.Num.the-variants.{Is, Bad}
+use Rattle.lex.specs.declared.Field.{Field}
+use Rattle.lex.specs.declared.Field.the-variants.{Number, Other}
 
 -- the number of the digits xs behind digits of the value a; a number is at most 65,535
 unfoldable pub digitsFrom : ℕ → List ℕ → Num
@@ -43,6 +46,11 @@ fieldsFrom p v = partsFrom 44 p v
 unfoldable pub before : ℕ → List ℕ → ℕ
 before c [] = 0
 before c (x ∷ xs) = cond (eqb x c) 0 (suc (before c xs))
+
+-- a number n that ends at e is what the field from the place p on holds, and where it ends; of any other nothing is said
+abbrev pub Scanned : List ℕ → ℕ → Field → Type 0
+Scanned s p (Number n e) = ((p ≤ e) × (e ≤ length s)) × (e ≡ p + before 44 (drop p s)) × (numberOf (take (e - p) (drop p s)) ≡ Is n)
+Scanned s p Other = Unit {0}
 
 -- n letters of a text from the place i on, as bytes
 abbrev pub lettersFrom : ℕ → ℕ → String → List ℕ

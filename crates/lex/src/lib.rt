@@ -1,8 +1,8 @@
 // The lexical layer of a line: numbers, fields and words of a part of the input.
 ghost use mathlib.Core.Path.{_≡_};
 ghost use Prim.Native.Nat.{_+_, _<_, _≤_};
-ghost use lib.ListN.{length, drop};
-ghost use Rattle.lex.specs.Text.{numberOf, digitsFrom, before, pack};
+ghost use lib.ListN.{length, take, drop};
+ghost use Rattle.lex.specs.Text.{numberOf, digitsFrom, before, pack, Scanned};
 
 // What a field holds, read as a number.
 pub enum Num {
@@ -54,13 +54,72 @@ fn digits(s: &[u8]) -> Num
     Num::Is(n as u16)
 }
 
-// The end of the field that starts at p: the next separator, or the end.
+// What a field is, as far as one pass over it says: a number, with the place of its end, or anything else.
+pub enum Field {
+    Number(u16, usize),
+    Other,
+}
+
+// The field that starts at p, where it is a number that does not begin with 0.
+pub fn scan(s: &[u8], p: usize) -> Field
+    ensures { λ r. ⌜ Scanned (now (s .entry)) p r ⌝ }
+{
+    if s.len() <= p {
+        return Field::Other;
+    }
+    if s[p] == 48 {
+        return Field::Other;
+    }
+    if s[p] == 44 {
+        return Field::Other;
+    }
+    let mut n: u32 = 0;
+    let mut i = p;
+    while i < s.len() {
+        if s[i] == 44 {
+            return Field::Number(n as u16, i);
+        }
+        let d = wide(s[i]);
+        if d < 48 {
+            return Field::Other;
+        }
+        if 57 < d {
+            return Field::Other;
+        }
+        n = n * 10 + (d - 48);
+        if 65535 < n {
+            return Field::Other;
+        }
+        i += 1;
+    }
+    Field::Number(n as u16, i)
+}
+
+// The end of the field that starts at p: the next separator, or the end. Four bytes to a turn, then those that are left.
 pub fn field_end(s: &[u8], p: usize, c: u8) -> usize
     requires { ⌜ p ≤ length (now s) ⌝ }
     ensures { λ r. ⌜ r ≡ p + before c (drop p (now (s .entry))) ⌝ }
     ensures within { λ r. ⌜ (p ≤ r) × (r ≤ length (now (s .entry))) ⌝ }
 {
     let mut i = p;
+    while 4 <= s.len() - i {
+        if s[i] == c {
+            return i;
+        }
+        i += 1;
+        if s[i] == c {
+            return i;
+        }
+        i += 1;
+        if s[i] == c {
+            return i;
+        }
+        i += 1;
+        if s[i] == c {
+            return i;
+        }
+        i += 1;
+    }
     while i < s.len() {
         if s[i] == c {
             return i;
@@ -95,4 +154,40 @@ pub fn pack(s: &[u8]) -> u64
         i += 1;
     }
     a
+}
+
+// The word at the start of a line: where it ends, and its number.
+pub struct Word {
+    pub end: usize,
+    pub number: u64,
+}
+
+// The word before the first separator, in one pass.
+pub fn word_to(s: &[u8], c: u8) -> Word
+    ensures within { λ r. ⌜ r .end ≤ length (now (s .entry)) ⌝ }
+    ensures { λ r. ⌜ (r .end ≡ before c (now (s .entry))) × (r .number ≡ pack (take (r .end) (now (s .entry)))) ⌝ }
+{
+    let mut a: u64 = 0;
+    let mut i = 0;
+    while i < s.len() {
+        if s[i] == c {
+            return Word { end: i, number: a };
+        }
+        if 72057594037927936 <= a {
+            return Word {
+                end: field_end(s, i, c),
+                number: 0,
+            };
+        }
+        let y = wider(s[i]);
+        if y == 0 {
+            return Word {
+                end: field_end(s, i, c),
+                number: 0,
+            };
+        }
+        a = a * 256 + y;
+        i += 1;
+    }
+    Word { end: i, number: a }
 }

@@ -1,11 +1,12 @@
 use Prim.Native.Nat.{_+_, _-_, _≤_}
 use mathlib.Core.Path.{_≡_, sym}
 use native.Mathlib.Nat.{add-zero}
+use native.Mathlib.Omega.{arith}
 use borrow.Author.Needs.{needs}
 use lib.ListN.{length}
 use Rattle.lex.specs.Text.{fieldsFrom}
 use Rattle.forms.specs.Form.{fill, cellsFrom}
-use Rattle.forms.proofs.Laws.{turn, turn-bad, turned}
+use Rattle.forms.proofs.Laws.{turn, turn-bad, turned, end-bounds}
 use Rattle.forms.proofs.fields.Statement.{statement}
 use Rattle.forms.proofs.fields.Tie as tie
 
@@ -26,27 +27,24 @@ fields-spec =
     (λ c. search needs)
     (λ c. search needs)
     (λ c. search needs)
-    (λ c κs. search needs)
-    (λ c. search needs)
-    (λ c. search needs)
-    (λ c. search needs)
     (λ c. (search needs, sym (search turn-bad)))
     (λ c. search needs)
     (λ c κs. search needs)
     (λ c. search needs)
-    (λ c. search needs)
-    (λ c. search needs)
+    (λ c. let b = c .before .before .before .before .before in omega (arith, end-bounds _ _ _ _ _ (b .c .given .1) (b .before .before .field .ensures .0)))
+    (λ c. let b = c .before .before .before .before .before in omega (arith, end-bounds _ _ _ _ _ (b .c .given .1) (b .before .before .field .ensures .0)))
     (λ c.
     let d = c .before .before in
     let b = d .before .before .before in
     let r = b .before .before in
-    let k = r .before .before in
-    let l = k .before .before in (
+    let k = r .before in
+    let l = k .before in
+    let e = end-bounds _ _ _ _ _ (b .c .given .1) (r .field .ensures .0) in (
+      omega (arith, e),
+      omega (arith, e),
       search needs,
-      search needs,
-      search needs,
-      turn _ _ _ _ _ _ _ (l .before .loop .inv .3) _ _ _ (l .loop-test .taken) (k .before .field-end .ensures .0) (k .kind-at .ensures)
-          (r .read-as .ensures) _ _ (b .c .given .1) (d .put-cell .ensures),
+      turn _ _ _ _ _ _ _ (l .before .loop .inv .3) _ _ (l .loop-test .taken) (k .kind-at .ensures) (r .field .ensures .1) _ _ _ (b .c .given .1)
+          (d .put-cell .ensures),
     ))
     (λ c. search needs)
     (λ c. (search needs, sym (search turned))))
