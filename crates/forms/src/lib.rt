@@ -1,4 +1,4 @@
-// Reads a line's value by a table of forms: FORMS has the kinds of each form's fields, and one loop reads every form.
+// Reads a line's value by a table of forms: `form_at` has the kinds of each form's fields, and one loop reads every form.
 use lex::Field;
 use lex::Num;
 ghost use mathlib.Core.Path.{_≡_};
