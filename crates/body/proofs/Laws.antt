@@ -4,7 +4,6 @@ use Prim.Native.Nat.{ℕ, suc, _+_, _*_, _-_, _<_, _≤_}
 use mathlib.Core.Path.{_≡_, refl, ap, sym, _∙_}
 use mathlib.Core.List.{List, _++_, append-nil}
 use mathlib.Core.Bool.{Bool, true, false}
-use native.Mathlib.Nat.{zero-add, sub-zero}
 use native.Mathlib.Numerals.{add-one, add-two}
 use native.Mathlib.Omega.{arith}
 use lib.Dec.{ltb}
@@ -12,7 +11,7 @@ use lib.ListN.{length, take, drop, set, replicate, length-drop, drop-of-length-l
 use lib.Seq.{length-take-le}
 use borrow.Author.Fill.{fill-more}
 use borrow.Author.Tests.{lt-ltb, le-ltb, eq-eqb, ne-eqb}
-use Rattle.lex.specs.Text.{before, pack, partsFrom}
+use Rattle.lex.specs.Text.{before, partsFrom}
 use Rattle.lex.proofs.Laws.{first-part, no-part}
 use Rattle.forms.proofs.Laws.{rest}
 use Rattle.forms.specs.declared.Fault.{Fault}
@@ -21,7 +20,6 @@ use Rattle.forms.specs.declared.Form.{Form}
 use Rattle.forms.specs.declared.Line.{Line}
 use Rattle.forms.specs.declared.Line.the-variants as line
 use Rattle.forms.specs.Form.{key-fn, keyOf, formAt, parseLine, lay, shown, widthOf}
-use Rattle.forms.specs.Words.{keyNumbered, key-by-number}
 use Rattle.refs.specs.declared.Counts.{Counts}
 use Rattle.refs.specs.declared.Refs.{Refs}
 use Rattle.refs.specs.declared.Refs.the-variants as found
@@ -88,17 +86,17 @@ pub fields-next : (r : Step) (x : State) (m : ℕ) → r ≡ step.Next x → fie
 fields-next r x m p h = rw p at h
 
 -- a line l, with its first equals sign at q
-module _ (l : List ℕ) (st : State) (cells rows : List ℕ) (q : ℕ) (e : q ≡ 0 + before 61 l) where
+module _ (l : List ℕ) (st : State) (cells rows : List ℕ) (q : ℕ) (e : q ≡ before 61 l) where
   at-q : before 61 l ≡ q
-  at-q = sym (e ∙ zero-add (before 61 l))
+  at-q = sym e
 
   pub no-equals : length l ≤ q → stepOf l st cells rows ≡ bad fault.Form
   unfolding stepOf
   no-equals h = rw (at-q, le-ltb q (length l) h)
 
-  module _ (h : q < length l) (w k : ℕ) (wq : w ≡ pack (take (q - 0) l)) (kq : k ≡ keyNumbered w) (b : Bool) (bq : b ≡ inOrder (st .key) k) where
+  module _ (h : q < length l) (k : ℕ) (kq : k ≡ keyOf (take q l)) (b : Bool) (bq : b ≡ inOrder (st .key) k) where
     the-key : keyOf (take q l) ≡ k
-    the-key = sym (kq ∙ ap keyNumbered wq ∙ ap (λ (i : ℕ). keyNumbered (pack (take i l))) (sub-zero q) ∙ key-by-number (take q l))
+    the-key = sym kq
 
     pub out-of-order : b ≡ false → stepOf l st cells rows ≡ bad fault.Form
     unfolding stepOf

@@ -274,11 +274,12 @@ fn step_line(l: &[u8], st: State, cells: &mut [u16], rows: &mut [u16]) -> Step
     ensures within { λ r. ⌜ fieldsIn r ≤ st .counts .fields + length (now (l .entry)) ⌝ }
     ensures { λ r. ⌜ stepped r (now (cells .exit)) (now (rows .exit)) ≡ stepOf (now (l .entry)) st (now (cells .entry)) (now (rows .entry)) ⌝ }
 {
-    let q = lex::field_end(l, 0, 61);
+    let w = forms::read_key(l);
+    let q = w.end;
     if l.len() <= q {
         return Step::Bad(Fault::Form);
     }
-    let k = forms::key_of(lex::pack(&l[0..q]));
+    let k = w.number;
     let was = st.key;
     if in_order(was, k) {
         let at = st.counts.fields;

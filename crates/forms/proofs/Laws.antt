@@ -12,7 +12,7 @@ use lib.Dec.{eqb, ltb}
 use lib.ListN.{length, getD, take, drop, set, drop-of-length-le, length-drop, List·getD-eq-default}
 use lib.Seq.{take-all}
 use borrow.Author.Tests.{lt-ltb, le-ltb, lt-leb, le-leb, ne-eqb, eqb-true, eqb-false}
-use Rattle.lex.specs.Text.{numberOf, digitsFrom, before, fieldsFrom, pack, Scanned}
+use Rattle.lex.specs.Text.{numberOf, digitsFrom, before, fieldsFrom, same, pack, Scanned}
 use Rattle.lex.proofs.Laws.{first-part, no-part}
 use Rattle.lex.specs.declared.Num.{Num}
 use Rattle.lex.specs.declared.Num.the-variants as num
@@ -29,8 +29,8 @@ use Rattle.forms.specs.declared.Line.the-variants as line
 use Rattle.forms.specs.declared.Cell.{Cell}
 use Rattle.forms.specs.declared.Read.{Read}
 use Rattle.forms.specs.declared.Read.the-variants.{Is, Bad}
-use Rattle.forms.specs.Form.{LineForm, forms, no-form, formAt, readAs, readOf, cell, ending, fieldAt, endIn, valued, named, letterOf, optionalOf, binaryOf, unaryOf, tagOf, taggedOf, resolutionOf, behindOf, pairOf, kindAt, Cells, refused, cells, prepend, cellsFrom, store, storeFrom, Filled, unfilled, filled, fill, formOf, counted, withCells, parseLine, startOf, countOf, Laid, faulty, lay, shown, outcome, countIn, widthOf}
-use Rattle.forms.specs.Words.{indexNumbered, form-by-number}
+use Rattle.forms.specs.Form.{keyOf, LineForm, forms, no-form, formAt, readAs, readOf, cell, ending, fieldAt, endIn, valued, named, letterOf, optionalOf, binaryOf, unaryOf, tagOf, taggedOf, resolutionOf, behindOf, pairOf, kindAt, Cells, refused, cells, prepend, cellsFrom, store, storeFrom, Filled, unfilled, filled, fill, formOf, counted, withCells, parseLine, startOf, countOf, Laid, faulty, lay, shown, outcome, countIn, widthOf}
+use Rattle.forms.specs.Words.{keyNumbered, key-by-number, indexNumbered, form-by-number}
 
 -- a field read by its class
 pub of-class : (r : Read) (c c′ : ℕ) (s : List ℕ) → c ≡ c′ → r ≡ readAs c′ s → r ≡ readAs c s
@@ -101,6 +101,25 @@ module _ (b : Bool) (s : List ℕ) (e : ℕ) (h : e ≡ 0 + before 58 s) where
 -- the test of two numbers that differ
 pub other : (a b : ℕ) → (b ≡ a → ⊥) → eqb a b ≡ false
 other a b n = ne-eqb a b (λ e. n (sym e))
+
+-- a line that begins with `node=`
+pub node-key : (l : List ℕ) → 5 ≤ length l → getD l 0 0 ≡ 110 → getD l 1 0 ≡ 111 → getD l 2 0 ≡ 100 → getD l 3 0 ≡ 101 → getD l 4 0 ≡ 61
+    → (4 ≡ before 61 l) × (4 ≡ keyOf (take 4 l))
+unfolding before keyOf same
+node-key [] h a b c d e = absurd (omega arith)
+node-key (x ∷ []) h a b c d e = absurd (omega arith)
+node-key (x ∷ y ∷ []) h a b c d e = absurd (omega arith)
+node-key (x ∷ y ∷ z ∷ []) h a b c d e = absurd (omega arith)
+node-key (x ∷ y ∷ z ∷ u ∷ []) h a b c d e = absurd (omega arith)
+node-key (x ∷ y ∷ z ∷ u ∷ v ∷ vs) h a b c d e = (rw (a, b, c, d, e), rw (a, b, c, d))
+
+-- a line's key by its word
+module _ (l : List ℕ) (e : ℕ) (q : e ≡ 0 + before 61 l) where
+  pub key-end : e ≡ before 61 l
+  key-end = q ∙ zero-add (before 61 l)
+
+  pub key-word : (w k : ℕ) → w ≡ pack (take (e - 0) l) → k ≡ keyNumbered w → k ≡ keyOf (take e l)
+  key-word w k p r = r ∙ ap keyNumbered p ∙ ap (λ (i : ℕ). keyNumbered (pack (take i l))) (sub-zero e) ∙ key-by-number (take e l)
 
 -- a cell that is in the table
 pub stored : (t : List ℕ) (j : ℕ) (c : Cell) → j * 3 + 3 ≤ length t → set (set (set t (j * 3) (c .name)) (j * 3 + 1) (c .tag)) (j * 3 + 2) (c .value) ≡ store t j c

@@ -3,10 +3,10 @@ use lex::Field;
 use lex::Num;
 ghost use mathlib.Core.Path.{_≡_};
 ghost use Prim.Native.Nat.{_+_, _≤_, _<_};
-ghost use lib.ListN.{length, drop};
+ghost use lib.ListN.{length, take, drop};
 ghost use Rattle.lex.specs.declared.Num.the-variants as num;
-ghost use Rattle.lex.specs.Text.{numberOf, fieldsFrom};
-ghost use Rattle.forms.specs.Form.{forms as forms·T, key-type, key-node, formAt, kindAt, readAs, readOf, optionalOf, binaryOf, unaryOf, resolutionOf, pairOf, behindOf, store, fieldAt, endIn, cellsFrom, fill, outcome, letterOf, tagOf, taggedOf, named, countOf, startOf, shown, lay, parseLine, countIn, widthOf};
+ghost use Rattle.lex.specs.Text.{numberOf, before, fieldsFrom};
+ghost use Rattle.forms.specs.Form.{forms as forms·T, key-type, key-node, keyOf, formAt, kindAt, readAs, readOf, optionalOf, binaryOf, unaryOf, resolutionOf, pairOf, behindOf, store, fieldAt, endIn, cellsFrom, fill, outcome, letterOf, tagOf, taggedOf, named, countOf, startOf, shown, lay, parseLine, countIn, widthOf};
 ghost use Rattle.forms.specs.Words.{keyNumbered, indexNumbered};
 
 // The keys, in the order in which they come. NO_KEY is any other word.
@@ -234,6 +234,40 @@ pub fn key_of(w: u64) -> u8
         0x6e6f6465 => KEY_NODE,
         0x666e => KEY_FN,
         _ => NO_KEY,
+    }
+}
+
+// The key of a line, and where it ends.
+pub struct Key {
+    pub number: u8,
+    pub end: usize,
+}
+
+// The key of a line: `node`, which most lines have, by the first five bytes, and any other by its word.
+pub fn read_key(l: &[u8]) -> Key
+    ensures within { λ r. ⌜ r .end ≤ length (now (l .entry)) ⌝ }
+    ensures { λ r. ⌜ (r .end ≡ before 61 (now (l .entry))) × (r .number ≡ keyOf (take (r .end) (now (l .entry)))) ⌝ }
+{
+    if 5 <= l.len() {
+        if l[0] == 110 {
+            if l[1] == 111 {
+                if l[2] == 100 {
+                    if l[3] == 101 {
+                        if l[4] == 61 {
+                            return Key {
+                                number: KEY_NODE,
+                                end: 4,
+                            };
+                        }
+                    }
+                }
+            }
+        }
+    }
+    let e = lex::field_end(l, 0, 61);
+    Key {
+        number: key_of(lex::pack(&l[0..e])),
+        end: e,
     }
 }
 
