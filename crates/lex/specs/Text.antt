@@ -47,7 +47,7 @@ unfoldable pub before : ℕ → List ℕ → ℕ
 before c [] = 0
 before c (x ∷ xs) = cond (eqb x c) 0 (suc (before c xs))
 
--- a number n that ends at e is what the field from the place p on holds, and where it ends; of any other nothing is said
+-- the number n and the end e that a pass over the field from the place p on gives; of any other outcome nothing is said
 abbrev pub Scanned : List ℕ → ℕ → Field → Type 0
 Scanned s p (Number n e) = ((p ≤ e) × (e ≤ length s)) × (e ≡ p + before 44 (drop p s)) × (numberOf (take (e - p) (drop p s)) ≡ Is n)
 Scanned s p Other = Unit {0}
