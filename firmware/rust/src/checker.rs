@@ -73,18 +73,18 @@ impl Checker {
 
     /// Types a body.
     pub fn check(&mut self, body: &[u8]) -> Checked<'_> {
-        library::check(body, &mut self.lent, &mut self.told);
-        self.checked()
+        let answer = library::check(body, &mut self.lent, &mut self.told);
+        self.checked(answer)
     }
 
     /// Types a body and writes its report into `out`. The bytes behind the text stay as they were; where the text has no room, the
     /// answer is 9 and `out` is zero throughout.
     pub fn report(&mut self, body: &[u8], out: &mut [u8]) -> Reported<'_> {
         let answer = library::report(body, &mut self.lent, out, &mut self.told);
-        Reported { answer, checked: self.checked() }
+        Reported { answer, checked: self.checked(self.told[0]) }
     }
 
-    fn checked(&self) -> Checked<'_> {
+    fn checked(&self, answer: usize) -> Checked<'_> {
         let l = &self.lent;
         let tables = Tables {
             rows: &l.rows,
@@ -96,7 +96,7 @@ impl Checker {
             log: &l.log,
             memory: &l.memory,
         };
-        Checked { told: &self.told, tables }
+        Checked { answer, told: &self.told, tables }
     }
 }
 
@@ -155,6 +155,7 @@ pub struct Counts {
 /// What checking a body gave.
 #[derive(Clone, Copy, Debug)]
 pub struct Checked<'a> {
+    answer: usize,
     told: &'a [usize; TOLD],
     tables: Tables<'a>,
 }
@@ -162,7 +163,7 @@ pub struct Checked<'a> {
 impl<'a> Checked<'a> {
     /// The answer of the check, a number of the module [`answer`](crate::answer) other than 9.
     pub fn answer(&self) -> usize {
-        self.told[0]
+        self.answer
     }
 
     /// The line, from 1, for the answers 3 to 6; the node for 10 to 13.
