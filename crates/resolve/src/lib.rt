@@ -138,7 +138,7 @@ fn result(m: &mut [u16], c: Record, n: NodeId, y: TypeId) -> Ruled
 fn typeck(rows: &[u16], cells: &[u16], m: &mut [u16], binds: u16, c: Record, n: NodeId) -> Ruled
     ensures { λ r. ⌜ Rules (now (m .entry)) c (now (m .exit)) r (Rattle.resolve.specs.Resolve.typeck (tables (now (rows .entry)) (now (cells .entry)) binds) (n .0)) ⌝ }
 {
-    match walk::expr(rows, cells, m, binds, walk::LEVELS, c, n) {
+    match walk::body_type(rows, cells, m, binds, c, n) {
         Typed::Type(d, y) => result(m, d, n, y),
         Typed::Refused(d, k, p) => Ruled::Refused(d, k, p),
     }

@@ -790,3 +790,19 @@ pub fn expr(
     write_down(m, n, z);
     z
 }
+
+// The node that BODY of `fn` is, with all levels. That `rule` is called here too keeps the compiler from copying it into `expr`, which is then short.
+pub fn body_type(
+    rows: &[u16],
+    cells: &[u16],
+    m: &mut [u16],
+    binds: u16,
+    c: Record,
+    n: NodeId,
+) -> Typed
+    ensures { λ z. ⌜ Types (now (m .entry)) c (now (m .exit)) z (typeck-expr (tables (now (rows .entry)) (now (cells .entry)) binds) 64 (n .0)) ⌝ }
+{
+    let z = rule(rows, cells, m, binds, LEVELS - 1, c, n);
+    write_down(m, n, z);
+    z
+}
