@@ -1,4 +1,4 @@
-/* The stack that nunthila_check takes. It runs on a stack of its own that is filled with a pattern: on bodies of 64 levels of one form of node each, on
+/* The stack that nunthila_check takes. It runs on a stack of its own that is filled with a pattern: on bodies of up to 64 levels of each two forms of nodes in turn, on
    the same with an equation at the bottom that searches a lambda for a variable, and on the bodies that the command line names. The last line has
    the deepest of all; the exit status is 1 if that is more than 128 KiB. */
 #define _XOPEN_SOURCE 700
@@ -53,45 +53,61 @@ static void put(const char *line)
     length += n;
 }
 
-/* A node of the form over the node before. */
-static void over(const char *form, int *last)
+/* Lines that put a form over the node before, and the levels that they add. In them @ is that node, and #0, #1 and so on are the nodes of these lines. */
+struct form {
+    const char *name;
+    const char *lines;
+    int levels;
+};
+
+static void over(const struct form *form, int *last)
 {
-    char line[64];
-    snprintf(line, sizeof line, form, *last);
-    put(line);
-    *last += 1;
+    const char *c;
+    char number[16];
+    int nodes = 0;
+    for (c = form->lines; *c; c++) {
+        if (*c == '@' || *c == '#') {
+            snprintf(number, sizeof number, "%d", *c == '@' ? *last : *last + 1 + (c[1] - '0'));
+            put(number);
+            c += *c == '#';
+        } else {
+            body[length++] = (uint8_t)*c;
+            nodes += *c == '\n';
+        }
+    }
+    *last += nodes;
 }
 
-static void end(int last)
+/* Up to so many levels of two forms in turn over the node `last`, and a block over them, which has the first node as a statement too if `first`. */
+static void pile(const struct form *odd, const struct form *even, int levels, int last, int first)
 {
     char line[64];
-    snprintf(line, sizeof line, "fn=0,%d\n", last);
-    put(line);
-}
-
-/* 64 levels of two forms in turn, an integer below them. */
-static void levels(const char *odd, const char *even)
-{
-    int last = 0, i;
-    length = 0;
-    put("node=int\n");
-    for (i = 0; i < 63; i++)
+    int i;
+    for (i = 0; (i % 2 ? even : odd)->levels <= levels; i++) {
         over(i % 2 ? even : odd, &last);
-    end(last);
+        levels -= (i % 2 ? even : odd)->levels;
+    }
+    snprintf(line, sizeof line, first ? "node=block,-,0,%d\nfn=0,%d\n" : "node=block,-,%d\nfn=0,%d\n", last, last + 1);
+    put(line);
+}
+
+/* A function and a method of it, for the forms that call one. */
+#define DECLARED "def=8,8\nbind=8,1:0\n"
+
+/* 64 levels, a list of an integer below them. */
+static void levels(const struct form *odd, const struct form *even)
+{
+    length = 0;
+    put(DECLARED "node=int\nnode=list,0\n");
+    pile(odd, even, 61, 1, 0);
 }
 
 /* The same over an assignment of a lambda to a variable that stands in it: answered 12. */
-static void search(const char *odd, const char *even)
+static void search(const struct form *odd, const struct form *even)
 {
-    int last = 4, i;
-    char line[64];
     length = 0;
-    put("node=let,-,-\nnode=path,l0,1\nnode=path,l0,1\nnode=lambda,-,2\nnode=assign,1,3\n");
-    for (i = 0; i < 60; i++)
-        over(i % 2 ? even : odd, &last);
-    snprintf(line, sizeof line, "node=block,-,0,%d\n", last);
-    put(line);
-    end(last + 1);
+    put(DECLARED "node=let,-,-\nnode=path,l0,1\nnode=path,l0,1\nnode=lambda,-,2\nnode=assign,1,3\n");
+    pile(odd, even, 60, 4, 1);
 }
 
 static size_t deepest, without;
@@ -112,9 +128,30 @@ static void measure(const char *name, size_t expected)
 
 int main(int count, char **names)
 {
-    static const char *const forms[] = {"node=list,%d\n",     "node=un,t,%d\n",   "node=un,r,%d\n",  "node=call,%d\n",
-                                        "node=field,%d,1\n",  "node=mcall,%d,1\n", "node=block,%d\n", "node=block,-,%d\n",
-                                        "node=lambda,-,%d\n", "node=return,%d\n"};
+    static const struct form forms[] = {
+        {"list", "node=list,@\n", 1},
+        {"list behind another element", "node=int\nnode=list,#0,@\n", 1},
+        {"un,t", "node=un,t,@\n", 1},
+        {"un,r", "node=un,r,@\n", 1},
+        {"bin", "node=int\nnode=bin,b,#0,@\n", 1},
+        {"index", "node=int\nnode=list,#0\nnode=index,#1,@\n", 1},
+        {"assign", "node=int\nnode=assign,#0,@\n", 1},
+        {"opassign", "node=int\nnode=opassign,#0,@\n", 1},
+        {"field", "node=field,@,1\n", 1},
+        {"call", "node=call,@\n", 1},
+        {"argument of a function", "node=path,f0,1\nnode=call,#0,@\n", 1},
+        {"argument of a lambda", "node=param,-\nnode=int\nnode=lambda,-,#1,#0\nnode=call,#2,@\n", 1},
+        {"mcall", "node=mcall,@,1\n", 1},
+        {"argument of mcall", "node=path,f0,1\nnode=int\nnode=call,#0,#1\nnode=mcall,#2,1,@\n", 1},
+        {"condition", "node=block,-\nnode=if,@,#0,-\n", 1},
+        {"else", "node=bool\nnode=block,-\nnode=if,#0,#1,@\n", 1},
+        {"loop", "node=block,-,@\nnode=loop,#0\n", 2},
+        {"let", "node=let,-,@\nnode=block,-,#0\n", 2},
+        {"tail of a block", "node=block,@\n", 1},
+        {"statement", "node=block,-,@\n", 1},
+        {"lambda", "node=lambda,-,@\n", 1},
+        {"return", "node=return,@\n", 1},
+    };
     const size_t kinds = sizeof forms / sizeof forms[0];
     size_t i, j;
     int k;
@@ -124,13 +161,11 @@ int main(int count, char **names)
     call = 1;
     for (i = 0; i < kinds; i++)
         for (j = 0; j < kinds; j++) {
-            snprintf(name, sizeof name, "64 levels of %.*s and %.*s", (int)strlen(forms[i]) - 1, forms[i], (int)strlen(forms[j]) - 1,
-                     forms[j]);
-            levels(forms[i], forms[j]);
+            snprintf(name, sizeof name, "64 levels of %s and %s", forms[i].name, forms[j].name);
+            levels(&forms[i], &forms[j]);
             measure(name, 0);
-            snprintf(name, sizeof name, "a search under %.*s and %.*s", (int)strlen(forms[i]) - 1, forms[i], (int)strlen(forms[j]) - 1,
-                     forms[j]);
-            search(forms[i], forms[j]);
+            snprintf(name, sizeof name, "a search under %s and %s", forms[i].name, forms[j].name);
+            search(&forms[i], &forms[j]);
             measure(name, 12);
         }
     for (k = 1; k < count; k++) {
