@@ -1,6 +1,7 @@
-/* The stack that nunthila_check takes. It runs on a stack of its own that is filled with a pattern: on bodies of up to 64 levels of each two forms of nodes in turn, on
-   the same with an equation at the bottom that searches a lambda for a variable, and on the bodies that the command line names. The last line has
-   the deepest of all; the exit status is 1 if that is more than 128 KiB. */
+/* The stack that nunthila_check takes. It runs on a stack of its own that is filled with a pattern: on bodies of up to 64 levels of each two
+   forms of nodes in turn, on the same with an equation at the bottom that searches a lambda for a variable, or that goes four functions deep and
+   searches there, and on the bodies that the command line names. The last line has the deepest of all; the exit status is 1 if that is more
+   than 128 KiB. */
 #define _XOPEN_SOURCE 700
 #include "nunthila.h"
 #include <stdio.h>
@@ -78,8 +79,8 @@ static void over(const struct form *form, int *last)
     *last += nodes;
 }
 
-/* Up to so many levels of two forms in turn over the node `last`, and a block over them, which has the first node as a statement too if `first`. */
-static void pile(const struct form *odd, const struct form *even, int levels, int last, int first)
+/* Up to so many levels of two forms in turn over the node `last`, and a block over them, with the statements `before` before it. */
+static void pile(const struct form *odd, const struct form *even, int levels, int last, const char *before)
 {
     char line[64];
     int i;
@@ -87,7 +88,7 @@ static void pile(const struct form *odd, const struct form *even, int levels, in
         over(i % 2 ? even : odd, &last);
         levels -= (i % 2 ? even : odd)->levels;
     }
-    snprintf(line, sizeof line, first ? "node=block,-,0,%d\nfn=0,%d\n" : "node=block,-,%d\nfn=0,%d\n", last, last + 1);
+    snprintf(line, sizeof line, "node=block,-,%s%d\nfn=0,%d\n", before, last, last + 1);
     put(line);
 }
 
@@ -99,7 +100,7 @@ static void levels(const struct form *odd, const struct form *even)
 {
     length = 0;
     put(DECLARED "node=int\nnode=list,0\n");
-    pile(odd, even, 61, 1, 0);
+    pile(odd, even, 61, 1, "");
 }
 
 /* The same over an assignment of a lambda to a variable that stands in it: answered 12. */
@@ -107,7 +108,17 @@ static void search(const struct form *odd, const struct form *even)
 {
     length = 0;
     put(DECLARED "node=let,-,-\nnode=path,l0,1\nnode=path,l0,1\nnode=lambda,-,2\nnode=assign,1,3\n");
-    pile(odd, even, 60, 4, 1);
+    pile(odd, even, 60, 4, "0,");
+}
+
+/* The same over an assignment of lambdas four deep to functions four deep; at the bottom an array is searched for a param's variable. */
+static void functions(const struct form *odd, const struct form *even)
+{
+    length = 0;
+    put("type=array,8\ntype=fun,0,8,14\ntype=fun,0,15\ntype=fun,0,16\ntype=fun,0,17\n" DECLARED
+        "node=let,18,-\nnode=param,-\nnode=int\nnode=lambda,-,2,1\nnode=lambda,-,3\nnode=lambda,-,4\nnode=lambda,-,5\nnode=let,-,6\n"
+        "node=path,l0,1\nnode=path,l7,1\nnode=assign,8,9\n");
+    pile(odd, even, 61, 10, "0,7,");
 }
 
 static size_t deepest, without;
@@ -167,6 +178,9 @@ int main(int count, char **names)
             snprintf(name, sizeof name, "a search under %s and %s", forms[i].name, forms[j].name);
             search(&forms[i], &forms[j]);
             measure(name, 12);
+            snprintf(name, sizeof name, "functions four deep under %s and %s", forms[i].name, forms[j].name);
+            functions(&forms[i], &forms[j]);
+            measure(name, 0);
         }
     for (k = 1; k < count; k++) {
         FILE *f = fopen(names[k], "rb");
