@@ -110,8 +110,8 @@ module _ (n : Counts) (rows cells m m′ : List ℕ) (r : Ruled) (b : BodyTyped 
   walk-done c e = record { by = λ w large. (refl, typed-in-memory n rows cells w m m′ (ruled.Done c) large (rw e at b)) }
 
   -- a body that is refused
-  pub walk-refused : (c : Record) (k : ℕ) (p : NodeId) → r ≡ ruled.Refused c k p → WalkRead n rows cells m (walked.Declined k p) m′
-  walk-refused c k p e = record { by = λ w large. let t = typed-in-memory n rows cells w m m′ (ruled.Refused c k p) large (rw e at b) in (t .0, t .1) }
+  pub walk-refused : (c : Record) (k : ℕ) (p : NodeId) → r ≡ ruled.Refused k c p → WalkRead n rows cells m (walked.Declined k p) m′
+  walk-refused c k p e = record { by = λ w large. let t = typed-in-memory n rows cells w m m′ (ruled.Refused k c p) large (rw e at b) in (t .0, t .1) }
 
 -- of tables that are long enough the reader takes the lengths alone
 reading-lengths : (s rows cells rows′ cells′ : List ℕ) → length s ≤ most-bytes → rows-length ≤ length rows → cells-length ≤ length cells → length rows′ ≡ length rows → length cells′ ≡ length cells

@@ -19,7 +19,7 @@ fn walk_read(rows: &[u16], cells: &[u16], n: Counts, memory: &mut [u16]) -> Walk
 {
     match resolve::type_body(rows, cells, memory, n) {
         Ruled::Done(c) => Walked::Typed(n, c),
-        Ruled::Refused(c, k, p) => Walked::Declined(k, p),
+        Ruled::Refused(k, c, p) => Walked::Declined(k as u16, p),
     }
 }
 

@@ -233,10 +233,10 @@ module _ (m w : List ℕ) (c : Record) (x y : TypeId) (r : Answer) (p : Solved m
     failed-by : ((s : State) → Encodes m c s → run (equation n (x .0) (y .0) err) s ≡ (some false, emitted (withCause err k) (after s))) → (m′ : List ℕ) (z : Equated) → Fails w c (x .0) (y .0) k err m′ z → Equates m c m′ n z (equation n (x .0) (y .0) err)
     failed-by g m′ (equated.Met d) h = absurd h
     failed-by g m′ (equated.Failed d) h = record { by = record { ran = λ s e f. rw (g s e) (refl, failing e k err m′ d (is s e) h (rw (g s e) at f)) } }
-    failed-by g m′ (equated.Refused d a) h = absurd h
+    failed-by g m′ (equated.Refused a d) h = absurd h
 
     -- the equation is refused with k
-    refused-by : ((s : State) → Encodes m c s → run (equation n (x .0) (y .0) err) s ≡ (none, refused k n (after s))) → (m′ : List ℕ) (d : Record) → Logs w c (x .0) (y .0) k m′ d → Equates m c m′ n (equated.Refused d k) (equation n (x .0) (y .0) err)
+    refused-by : ((s : State) → Encodes m c s → run (equation n (x .0) (y .0) err) s ≡ (none, refused k n (after s))) → (m′ : List ℕ) (d : Record) → Logs w c (x .0) (y .0) k m′ d → Equates m c m′ n (equated.Refused k d) (equation n (x .0) (y .0) err)
     refused-by g m′ d logs = record { by = record { stopped = λ s e f. rw (g s e) (refl, stops-with k n (after s), encodes-refused k n (noted e (fits-refused k n (after s) (rw (g s e) at f)) m′ d k logs (is s e))) } }
 
   -- the equation failed with CAUSE 1
@@ -248,11 +248,11 @@ module _ (m w : List ℕ) (c : Record) (x y : TypeId) (r : Answer) (p : Solved m
   equation-order q n err = failed-by 2 n err (λ s e. numbered s e q) (λ s e. rw q at (reacts e n err))
 
   -- the equation is refused with 12
-  pub equation-12 : r ≡ Refused12 → (n : ℕ) (err : TypingError) (m′ : List ℕ) (d : Record) → Logs w c (x .0) (y .0) 12 m′ d → Equates m c m′ n (equated.Refused d 12) (equation n (x .0) (y .0) err)
+  pub equation-12 : r ≡ Refused12 → (n : ℕ) (err : TypingError) (m′ : List ℕ) (d : Record) → Logs w c (x .0) (y .0) 12 m′ d → Equates m c m′ n (equated.Refused 12 d) (equation n (x .0) (y .0) err)
   equation-12 q n err = refused-by 12 n err (λ s e. numbered s e q) (λ s e. rw q at (reacts e n err))
 
   -- the equation is refused with 13
-  pub equation-13 : r ≡ Refused13 → (n : ℕ) (err : TypingError) (m′ : List ℕ) (d : Record) → Logs w c (x .0) (y .0) 13 m′ d → Equates m c m′ n (equated.Refused d 13) (equation n (x .0) (y .0) err)
+  pub equation-13 : r ≡ Refused13 → (n : ℕ) (err : TypingError) (m′ : List ℕ) (d : Record) → Logs w c (x .0) (y .0) 13 m′ d → Equates m c m′ n (equated.Refused 13 d) (equation n (x .0) (y .0) err)
   equation-13 q n err = refused-by 13 n err (λ s e. numbered s e q) (λ s e. rw q at (reacts e n err))
 
 -- ── the error of a failed equation ──

@@ -50,4 +50,4 @@ withCause e k = record { kind = e .kind; cause = k; at = e .at; second = e .seco
 abbrev pub Fails : List ℕ → Record → ℕ → ℕ → ℕ → TypingError → List ℕ → Equated → Type 0
 Fails m c x y k e m′ (equated.Met d) = ⊥
 Fails m c x y k e m′ (equated.Failed d) = c .equations < 65535 → Runs (logWritten m c x y k) (oneEquation c) m′ d (error (withCause e k)) tt
-Fails m c x y k e m′ (equated.Refused d n) = ⊥
+Fails m c x y k e m′ (equated.Refused n d) = ⊥

@@ -110,7 +110,7 @@ Gives m c m′ r p = Runs m c m′ (r .record) p (r .ty .0)
 -- by the answer
 abbrev pub TypesBy : List ℕ → Record → List ℕ → Typed → Walk ℕ → Type 0
 TypesBy m c m′ (typed.Type d t) p = Runs m c m′ d p (t .0)
-TypesBy m c m′ (typed.Refused d k n) p = Stops m c m′ d p k (n .0)
+TypesBy m c m′ (typed.Refused k d n) p = Stops m c m′ d p k (n .0)
 
 -- a program that gives a type or refuses
 pub record Types (m : List ℕ) (c : Record) (m′ : List ℕ) (r : Typed) (p : Walk ℕ) : Type 0 where
@@ -119,7 +119,7 @@ pub record Types (m : List ℕ) (c : Record) (m′ : List ℕ) (r : Typed) (p : 
 -- by the answer
 abbrev pub RulesBy : List ℕ → Record → List ℕ → Ruled → Step → Type 0
 RulesBy m c m′ (ruled.Done d) p = Runs m c m′ d p tt
-RulesBy m c m′ (ruled.Refused d k n) p = Stops m c m′ d p k (n .0)
+RulesBy m c m′ (ruled.Refused k d n) p = Stops m c m′ d p k (n .0)
 
 -- a program that gives no type, or refuses
 pub record Rules (m : List ℕ) (c : Record) (m′ : List ℕ) (r : Ruled) (p : Step) : Type 0 where
@@ -129,7 +129,7 @@ pub record Rules (m : List ℕ) (c : Record) (m′ : List ℕ) (r : Ruled) (p : 
 abbrev pub EquatesBy : List ℕ → Record → List ℕ → ℕ → Equated → Walk Bool → Type 0
 EquatesBy m c m′ n (equated.Met d) p = Runs m c m′ d p true
 EquatesBy m c m′ n (equated.Failed d) p = Runs m c m′ d p false
-EquatesBy m c m′ n (equated.Refused d k) p = Stops m c m′ d p k n
+EquatesBy m c m′ n (equated.Refused k d) p = Stops m c m′ d p k n
 
 -- an equation in the rule of the node n
 pub record Equates (m : List ℕ) (c : Record) (m′ : List ℕ) (n : ℕ) (r : Equated) (p : Walk Bool) : Type 0 where

@@ -111,7 +111,7 @@ module _ {m m′ : List ℕ} {c : Record} where
     type-is e h = rw e at (h .by)
 
     -- a refusal
-    pub type-refused : {k : ℕ} {n : NodeId} → r ≡ typed.Refused d k n → Types m c m′ r p → Stops m c m′ d p k (n .0)
+    pub type-refused : {k : ℕ} {n : NodeId} → r ≡ typed.Refused k d n → Types m c m′ r p → Stops m c m′ d p k (n .0)
     type-refused e h = rw e at (h .by)
 
   module _ {p : Step} {r : Ruled} {d : Record} where
@@ -120,7 +120,7 @@ module _ {m m′ : List ℕ} {c : Record} where
     rule-done e h = rw e at (h .by)
 
     -- a refusal
-    pub rule-refused : {k : ℕ} {n : NodeId} → r ≡ ruled.Refused d k n → Rules m c m′ r p → Stops m c m′ d p k (n .0)
+    pub rule-refused : {k : ℕ} {n : NodeId} → r ≡ ruled.Refused k d n → Rules m c m′ r p → Stops m c m′ d p k (n .0)
     rule-refused e h = rw e at (h .by)
 
   module _ {n : ℕ} {p : Walk Bool} {r : Equated} {d : Record} where
@@ -133,7 +133,7 @@ module _ {m m′ : List ℕ} {c : Record} where
     equation-failed e h = rw e at (h .by)
 
     -- refused
-    pub equation-refused : {k : ℕ} → r ≡ equated.Refused d k → Equates m c m′ n r p → Stops m c m′ d p k n
+    pub equation-refused : {k : ℕ} → r ≡ equated.Refused k d → Equates m c m′ n r p → Stops m c m′ d p k n
     equation-refused e h = rw e at (h .by)
 
 -- ── one part, and then what answers for itself ──
@@ -142,7 +142,7 @@ module _ {A : Type 0} {m m₁ : List ℕ} {c c₁ : Record} {p : Walk A} {a : A}
   -- by the answer
   after-by : (m₂ : List ℕ) (g : A → Walk ℕ) (r : Typed) → Runs m c m₁ c₁ p a → TypesBy m₁ c₁ m₂ r (g a) → TypesBy m c m₂ r (_>>=_ p g)
   after-by m₂ g (typed.Type d t) P Q = then g P Q
-  after-by m₂ g (typed.Refused d k n) P Q = then-stops g P Q
+  after-by m₂ g (typed.Refused k d n) P Q = then-stops g P Q
 
   -- a part, and then a program that gives a type or refuses
   pub after : {m₂ : List ℕ} (g : A → Walk ℕ) {r : Typed} → Runs m c m₁ c₁ p a → Types m₁ c₁ m₂ r (g a) → Types m c m₂ r (_>>=_ p g)
@@ -151,7 +151,7 @@ module _ {A : Type 0} {m m₁ : List ℕ} {c c₁ : Record} {p : Walk A} {a : A}
   -- by the answer
   after-rules-by : (m₂ : List ℕ) (g : A → Step) (r : Ruled) → Runs m c m₁ c₁ p a → RulesBy m₁ c₁ m₂ r (g a) → RulesBy m c m₂ r (_>>=_ p g)
   after-rules-by m₂ g (ruled.Done d) P Q = then g P Q
-  after-rules-by m₂ g (ruled.Refused d k n) P Q = then-stops g P Q
+  after-rules-by m₂ g (ruled.Refused k d n) P Q = then-stops g P Q
 
   -- a part, and then a program that gives no type, or refuses
   pub after-rules : {m₂ : List ℕ} (g : A → Step) {r : Ruled} → Runs m c m₁ c₁ p a → Rules m₁ c₁ m₂ r (g a) → Rules m c m₂ r (_>>=_ p g)
@@ -165,7 +165,7 @@ module _ {m m′ : List ℕ} {c d : Record} where
   typed-type R = record { by = R }
 
   -- a refusal
-  pub typed-refused : {p : Walk ℕ} {k : ℕ} {n : NodeId} → Stops m c m′ d p k (n .0) → Types m c m′ (typed.Refused d k n) p
+  pub typed-refused : {p : Walk ℕ} {k : ℕ} {n : NodeId} → Stops m c m′ d p k (n .0) → Types m c m′ (typed.Refused k d n) p
   typed-refused R = record { by = R }
 
   -- done
@@ -173,7 +173,7 @@ module _ {m m′ : List ℕ} {c d : Record} where
   ruled-done R = record { by = R }
 
   -- a refusal
-  pub ruled-refused : {p : Step} {k : ℕ} {n : NodeId} → Stops m c m′ d p k (n .0) → Rules m c m′ (ruled.Refused d k n) p
+  pub ruled-refused : {p : Step} {k : ℕ} {n : NodeId} → Stops m c m′ d p k (n .0) → Rules m c m′ (ruled.Refused k d n) p
   ruled-refused R = record { by = R }
 
 -- ── RAW as the code has it ──

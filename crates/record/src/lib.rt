@@ -364,7 +364,7 @@ fn log(m: &mut [u16], c: Record, x: TypeId, y: TypeId, answer: u16) -> Record
 pub enum Equated {
     Met(Record),
     Failed(Record),
-    Refused(Record, u16),
+    Refused(u8, Record),
 }
 
 // The error of a failed equation.
@@ -410,11 +410,11 @@ pub fn equate(m: &mut [u16], c: Record, x: TypeId, y: TypeId, e: TypingError) ->
         },
         Answer::Refused12 => {
             let r = log(m, c, x, y, 12);
-            Equated::Refused(r, 12)
+            Equated::Refused(12, r)
         }
         Answer::Refused13 => {
             let r = log(m, c, x, y, 13);
-            Equated::Refused(r, 13)
+            Equated::Refused(13, r)
         }
     }
 }
@@ -630,13 +630,14 @@ pub fn start(m: &mut [u16], output: TypeId) -> Record
 // ── what a rule answers ──
 
 // A type and the record with it, or the refusal that ends the walk: its number, and the node whose rule ran.
+// The number of a refusal stands first, beside the tag, so that the record behind it is copied in whole words.
 pub enum Typed {
     Type(Record, TypeId),
-    Refused(Record, u16, NodeId),
+    Refused(u8, Record, NodeId),
 }
 
 // The same of a rule that gives no type.
 pub enum Ruled {
     Done(Record),
-    Refused(Record, u16, NodeId),
+    Refused(u8, Record, NodeId),
 }

@@ -280,7 +280,7 @@ module _ (n : CountsB) (rows cells : List ℕ) (f : Function) (line : f ≡ fnLi
   }
 
   -- a body that is refused
-  pub body-refused : (k : ℕ) (p : NodeId) → Stops m₂ c₁ m₃ c₃ (typeck (bodyWith n rows cells) (f .body .0)) k (p .0) → BodyTyped m m₃ (ruled.Refused c₃ k p) n rows cells
+  pub body-refused : (k : ℕ) (p : NodeId) → Stops m₂ c₁ m₃ c₃ (typeck (bodyWith n rows cells) (f .body .0)) k (p .0) → BodyTyped m m₃ (ruled.Refused k c₃ p) n rows cells
   body-refused k p T = record {
     by = λ large fits.
         let s : Encodes m₀ c₀ (first-state rows cells) = rw line at (S large) in

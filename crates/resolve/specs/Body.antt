@@ -31,7 +31,7 @@ ends n rows cells = (run (type-body n rows cells) (first-state rows cells)) .0 �
 -- by the answer: the memory holds the last state, and a refusal is that of the body
 abbrev pub TypedBy : List ℕ → Ruled → Counts → List ℕ → List ℕ → Type 0
 TypedBy m (ruled.Done d) n rows cells = ends n rows cells × Encodes m d (last-state n rows cells)
-TypedBy m (ruled.Refused d k p) n rows cells = ((run (type-body n rows cells) (first-state rows cells)) .0 ≡ none) × (last-state n rows cells .stop ≡ some (k, p .0)) × Encodes m d (last-state n rows cells)
+TypedBy m (ruled.Refused k d p) n rows cells = ((run (type-body n rows cells) (first-state rows cells)) .0 ≡ none) × (last-state n rows cells .stop ≡ some (k, p .0)) × Encodes m d (last-state n rows cells)
 
 -- the body is typed in a memory that is long enough, where its tables do not grow over their limits
 pub record BodyTyped (m m′ : List ℕ) (r : Ruled) (n : Counts) (rows cells : List ℕ) : Type 0 where

@@ -130,7 +130,7 @@ fn result(m: &mut [u16], c: Record, n: NodeId, y: TypeId) -> Ruled
     ) {
         Equated::Met(d) => Ruled::Done(d),
         Equated::Failed(d) => Ruled::Done(d),
-        Equated::Refused(d, k) => Ruled::Refused(d, k, n),
+        Equated::Refused(k, d) => Ruled::Refused(k, d, n),
     }
 }
 
@@ -140,7 +140,7 @@ fn typeck(rows: &[u16], cells: &[u16], m: &mut [u16], binds: u16, c: Record, n: 
 {
     match walk::body_type(rows, cells, m, binds, c, n) {
         Typed::Type(d, y) => result(m, d, n, y),
-        Typed::Refused(d, k, p) => Ruled::Refused(d, k, p),
+        Typed::Refused(k, d, p) => Ruled::Refused(k, d, p),
     }
 }
 
@@ -287,6 +287,6 @@ pub fn type_body(rows: &[u16], cells: &[u16], m: &mut [u16], n: refs::Counts) ->
             let g = resolve_nodes(m, e, count);
             Ruled::Done(g)
         }
-        Ruled::Refused(e, k, p) => Ruled::Refused(e, k, p),
+        Ruled::Refused(k, e, p) => Ruled::Refused(k, e, p),
     }
 }

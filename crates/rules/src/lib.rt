@@ -126,7 +126,7 @@ fn equate_for(
     match record::equate(m, c, x, y, e) {
         Equated::Met(d) => Typed::Type(d, t),
         Equated::Failed(d) => Typed::Type(d, t),
-        Equated::Refused(d, k) => Typed::Refused(d, k, n),
+        Equated::Refused(k, d) => Typed::Refused(k, d, n),
     }
 }
 
@@ -137,7 +137,7 @@ fn equate_on(m: &mut [u16], c: Record, n: NodeId, x: TypeId, y: TypeId, e: Typin
     match record::equate(m, c, x, y, e) {
         Equated::Met(d) => Ruled::Done(d),
         Equated::Failed(d) => Ruled::Done(d),
-        Equated::Refused(d, k) => Ruled::Refused(d, k, n),
+        Equated::Refused(k, d) => Ruled::Refused(k, d, n),
     }
 }
 
@@ -181,7 +181,7 @@ pub fn bin_op(
     match record::equate(m, c, x, y, between(ErrorKind::NoBinaryOp, l, r, x, y)) {
         Equated::Met(d) => Typed::Type(d, bin_type(o, x)),
         Equated::Failed(d) => Typed::Type(d, TypeId(ERR)),
-        Equated::Refused(d, k) => Typed::Refused(d, k, n),
+        Equated::Refused(k, d) => Typed::Refused(k, d, n),
     }
 }
 
@@ -490,7 +490,7 @@ fn let_declared(m: &mut [u16], c: Record, n: NodeId, x: TypeId, y: TypeId) -> Ru
             record::set_node_type(m, n, x);
             Ruled::Done(d)
         }
-        Equated::Refused(d, k) => Ruled::Refused(d, k, n),
+        Equated::Refused(k, d) => Ruled::Refused(k, d, n),
     }
 }
 
@@ -706,7 +706,7 @@ pub fn lambda(
         mismatch(ErrorKind::TypeMismatch, Span::Node(b), o, y, 0),
     ) {
         Ruled::Done(d) => lambda_type(cells, m, d, n, o, t),
-        Ruled::Refused(d, k, p) => Typed::Refused(d, k, p),
+        Ruled::Refused(k, d, p) => Typed::Refused(k, d, p),
     }
 }
 
@@ -728,7 +728,7 @@ fn type_res(m: &mut [u16], c: Record, n: NodeId, r: Res) -> Typed
     match r {
         Res::Local(l) => match record::node_type(m, l) {
             NodeType::Typed(t) => Typed::Type(c, t),
-            NodeType::Untyped => Typed::Refused(c, 11, n),
+            NodeType::Untyped => Typed::Refused(11, c, n),
         },
         Res::Fn(d) => fn_type(m, c, d),
         Res::Ctor(d) => fn_type(m, c, d),
@@ -739,7 +739,7 @@ fn type_res(m: &mut [u16], c: Record, n: NodeId, r: Res) -> Typed
             Typed::Type(d, t)
         }
         Res::Error => Typed::Type(c, TypeId(ERR)),
-        Res::Other => Typed::Refused(c, 10, n),
+        Res::Other => Typed::Refused(10, c, n),
     }
 }
 
@@ -752,7 +752,7 @@ fn whole_path(m: &mut [u16], c: Record, n: NodeId, r: Res) -> Typed
             record::set_extra(m, n, Extra::Resolved(r));
             Typed::Type(d, t)
         }
-        Typed::Refused(d, k, p) => Typed::Refused(d, k, p),
+        Typed::Refused(k, d, p) => Typed::Refused(k, d, p),
     }
 }
 
@@ -803,10 +803,10 @@ fn inst_path(
         let last = nodes::segment_res(cells, t, k - 1);
         return match type_res(m, c, n, last) {
             Typed::Type(d, x) => path_method(rows, cells, m, d, binds, n, x, name),
-            Typed::Refused(d, a, p) => Typed::Refused(d, a, p),
+            Typed::Refused(a, d, p) => Typed::Refused(a, d, p),
         };
     }
-    Typed::Refused(c, 10, n)
+    Typed::Refused(10, c, n)
 }
 
 // A partly failed path.
@@ -824,15 +824,15 @@ fn failed_path(
     ensures { λ z. ⌜ Types (now (m .entry)) c (now (m .exit)) z (failed-path (tables (now (rows .entry)) (now (cells .entry)) binds) (n .0) r resolved t) ⌝ }
 {
     match r {
-        Res::Local(l) => Typed::Refused(c, 10, n),
-        Res::Fn(d) => Typed::Refused(c, 10, n),
-        Res::Ctor(d) => Typed::Refused(c, 10, n),
+        Res::Local(l) => Typed::Refused(10, c, n),
+        Res::Fn(d) => Typed::Refused(10, c, n),
+        Res::Ctor(d) => Typed::Refused(10, c, n),
         Res::Inst(k) => inst_path(rows, cells, m, c, binds, n, resolved, t),
         Res::Error => {
             record::set_extra(m, n, Extra::Resolved(Res::Error));
             Typed::Type(c, TypeId(ERR))
         }
-        Res::Other => Typed::Refused(c, 10, n),
+        Res::Other => Typed::Refused(10, c, n),
     }
 }
 

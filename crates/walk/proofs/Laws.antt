@@ -55,7 +55,7 @@ module _ {m m′ : List ℕ} {c d : Record} where
   pair-types e h = rw e at (h .by)
 
   -- a refusal
-  pub pair-refused : {p : Walk (ℕ × ℕ)} {r : Pair} {k : ℕ} {n : NodeId} → r ≡ pair.Refused d k n → Pairs m c m′ r p → Stops m c m′ d p k (n .0)
+  pub pair-refused : {p : Walk (ℕ × ℕ)} {r : Pair} {k : ℕ} {n : NodeId} → r ≡ pair.Refused k d n → Pairs m c m′ r p → Stops m c m′ d p k (n .0)
   pair-refused e h = rw e at (h .by)
 
   -- no element
@@ -437,14 +437,14 @@ module _ (b : Body) (n : ℕ) where
   -- what its rule gave is written down
   pub expr-written : {m m₁ m′ : List ℕ} {c : Record} {z : Typed} (k : ℕ) → (k ≡ 0 → ⊥) → Types m c m₁ z (typeck-rule b (typeck-expr b (k - 1)) n) → WrittenDown m₁ n z m′ → Types m c m′ z (typeck-expr b k n)
   expr-written {z = typed.Type d t} k h R w = typed-type (expr-on k (t .0) h (type-is refl R) (w .by d))
-  expr-written {z = typed.Refused d a p} k h R w = typed-refused (expr-off k a (p .0) h (type-refused refl (rw (w .by) R)))
+  expr-written {z = typed.Refused a d p} k h R w = typed-refused (expr-off k a (p .0) h (type-refused refl (rw (w .by) R)))
 
 -- a type is written down,
 pub written-type : (n : ℕ) {m w : List ℕ} {z : Typed} {d : Record} {t : TypeId} → z ≡ typed.Type d t → Does m w (set-node-type n (t .0)) → WrittenDown m n z w
 written-type n {m = m} {w = w} e p = subst (λ (z : Typed). WrittenDown m n z w) (sym e) (record { by = p })
 
 -- and nothing of a refusal
-pub written-none : (n : ℕ) {m : List ℕ} {z : Typed} {d : Record} {k : ℕ} {p : NodeId} → z ≡ typed.Refused d k p → WrittenDown m n z m
+pub written-none : (n : ℕ) {m : List ℕ} {z : Typed} {d : Record} {k : ℕ} {p : NodeId} → z ≡ typed.Refused k d p → WrittenDown m n z m
 written-none n {m = m} e = subst (λ (z : Typed). WrittenDown m n z m) (sym e) (record { by = refl })
 
 -- ── loops ──

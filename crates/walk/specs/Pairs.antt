@@ -10,7 +10,7 @@ use Rattle.walk.specs.declared.Pair.the-variants as pair
 -- by the answer
 abbrev pub PairsBy : List ℕ → Record → List ℕ → Pair → Walk (ℕ × ℕ) → Type 0
 PairsBy m c m′ (pair.Types d x y) p = Runs m c m′ d p (x .0, y .0)
-PairsBy m c m′ (pair.Refused d k n) p = Stops m c m′ d p k (n .0)
+PairsBy m c m′ (pair.Refused k d n) p = Stops m c m′ d p k (n .0)
 
 -- two types, or a refusal
 pub record Pairs (m : List ℕ) (c : Record) (m′ : List ℕ) (r : Pair) (p : Walk (ℕ × ℕ)) : Type 0 where

@@ -10,7 +10,7 @@ use Rattle.record.specs.Encodes.{Does}
 -- by the answer
 abbrev pub WrittenBy : List ℕ → ℕ → Typed → List ℕ → Type 0
 WrittenBy m n (typed.Type d t) w = Does m w (set-node-type n (t .0))
-WrittenBy m n (typed.Refused d k p) w = w ≡ m
+WrittenBy m n (typed.Refused k d p) w = w ≡ m
 
 -- from the memory m to w the type of the node n is written down, if there is one
 pub record WrittenDown (m : List ℕ) (n : ℕ) (z : Typed) (w : List ℕ) : Type 0 where

@@ -32,7 +32,7 @@ pub const LEVELS: u16 = 64;
 // Pair nodes are typed in order.
 enum Pair {
     Types(Record, TypeId, TypeId),
-    Refused(Record, u16, NodeId),
+    Refused(u8, Record, NodeId),
 }
 
 fn two(
@@ -50,9 +50,9 @@ fn two(
     match expr(rows, cells, m, binds, level, c, l) {
         Typed::Type(d, x) => match expr(rows, cells, m, binds, level, d, r) {
             Typed::Type(e, y) => Pair::Types(e, x, y),
-            Typed::Refused(e, k, p) => Pair::Refused(e, k, p),
+            Typed::Refused(k, e, p) => Pair::Refused(k, e, p),
         },
-        Typed::Refused(d, k, p) => Pair::Refused(d, k, p),
+        Typed::Refused(k, d, p) => Pair::Refused(k, d, p),
     }
 }
 
@@ -73,7 +73,7 @@ fn bin(
 {
     match two(rows, cells, m, binds, level, c, l, r) {
         Pair::Types(d, x, y) => rules::bin_op(m, d, n, o, l, r, x, y),
-        Pair::Refused(d, k, p) => Typed::Refused(d, k, p),
+        Pair::Refused(k, d, p) => Typed::Refused(k, d, p),
     }
 }
 
@@ -93,7 +93,7 @@ fn assign(
 {
     match two(rows, cells, m, binds, level, c, v, e) {
         Pair::Types(d, x, y) => rules::assign(m, d, n, v, e, x, y),
-        Pair::Refused(d, k, p) => Typed::Refused(d, k, p),
+        Pair::Refused(k, d, p) => Typed::Refused(k, d, p),
     }
 }
 
@@ -113,7 +113,7 @@ fn opassign(
 {
     match two(rows, cells, m, binds, level, c, v, e) {
         Pair::Types(d, x, y) => rules::op_assign(m, d, n, x, y),
-        Pair::Refused(d, k, p) => Typed::Refused(d, k, p),
+        Pair::Refused(k, d, p) => Typed::Refused(k, d, p),
     }
 }
 
@@ -132,7 +132,7 @@ fn un(
 {
     match expr(rows, cells, m, binds, level, c, e) {
         Typed::Type(d, x) => rules::un_op(m, d, o, e, x),
-        Typed::Refused(d, k, p) => Typed::Refused(d, k, p),
+        Typed::Refused(k, d, p) => Typed::Refused(k, d, p),
     }
 }
 
@@ -151,7 +151,7 @@ fn field(
 {
     match expr(rows, cells, m, binds, level, c, e) {
         Typed::Type(d, x) => rules::field(rows, cells, m, d, e, x, name),
-        Typed::Refused(d, k, p) => Typed::Refused(d, k, p),
+        Typed::Refused(k, d, p) => Typed::Refused(k, d, p),
     }
 }
 
@@ -179,12 +179,12 @@ fn elements(
                 Ruled::Done(g) => {
                     d = g;
                 }
-                Ruled::Refused(g, a, p) => {
-                    return Ruled::Refused(g, a, p);
+                Ruled::Refused(a, g, p) => {
+                    return Ruled::Refused(a, g, p);
                 }
             },
-            Typed::Refused(f, a, p) => {
-                return Ruled::Refused(f, a, p);
+            Typed::Refused(a, f, p) => {
+                return Ruled::Refused(a, f, p);
             }
         }
         i += 1;
@@ -208,7 +208,7 @@ fn rest(
 {
     match elements(rows, cells, m, binds, level, c, n, t, x) {
         Ruled::Done(d) => rules::list_of(m, d, x),
-        Ruled::Refused(d, k, p) => Typed::Refused(d, k, p),
+        Ruled::Refused(k, d, p) => Typed::Refused(k, d, p),
     }
 }
 
@@ -232,7 +232,7 @@ fn list(
     let e = nodes::item(cells, t, 0);
     match expr(rows, cells, m, binds, level, c, NodeId(e)) {
         Typed::Type(d, x) => rest(rows, cells, m, binds, level, d, n, t, x),
-        Typed::Refused(d, a, p) => Typed::Refused(d, a, p),
+        Typed::Refused(a, d, p) => Typed::Refused(a, d, p),
     }
 }
 
@@ -252,7 +252,7 @@ fn index_in(
 {
     match expr(rows, cells, m, binds, level, c, i) {
         Typed::Type(d, y) => rules::index(m, d, n, e, y),
-        Typed::Refused(d, k, p) => Typed::Refused(d, k, p),
+        Typed::Refused(k, d, p) => Typed::Refused(k, d, p),
     }
 }
 
@@ -275,7 +275,7 @@ fn index(
             Indexed::Element(e) => index_in(rows, cells, m, binds, level, d, n, i, e),
             Indexed::Not(f) => Typed::Type(f, TypeId(ERR)),
         },
-        Typed::Refused(d, k, p) => Typed::Refused(d, k, p),
+        Typed::Refused(k, d, p) => Typed::Refused(k, d, p),
     }
 }
 
@@ -297,7 +297,7 @@ fn other(
         MaybeNode::Absent => Typed::Type(c, TypeId(NIL)),
         MaybeNode::Of(b) => match expr(rows, cells, m, binds, level, c, b) {
             Typed::Type(d, y) => rules::branches(m, d, n, b, x, y),
-            Typed::Refused(d, k, p) => Typed::Refused(d, k, p),
+            Typed::Refused(k, d, p) => Typed::Refused(k, d, p),
         },
     }
 }
@@ -318,7 +318,7 @@ fn branch(
 {
     match body_of(rows, cells, m, binds, level, c, b) {
         Typed::Type(d, x) => other(rows, cells, m, binds, level, d, n, x, e),
-        Typed::Refused(d, k, p) => Typed::Refused(d, k, p),
+        Typed::Refused(k, d, p) => Typed::Refused(k, d, p),
     }
 }
 
@@ -342,7 +342,7 @@ fn cond(
             let f = rules::condition(m, d, a, x);
             branch(rows, cells, m, binds, level, f, n, b, e)
         }
-        Typed::Refused(d, k, p) => Typed::Refused(d, k, p),
+        Typed::Refused(k, d, p) => Typed::Refused(k, d, p),
     }
 }
 
@@ -360,7 +360,7 @@ fn looped(
 {
     match body_of(rows, cells, m, binds, level, c, b) {
         Typed::Type(d, x) => Typed::Type(d, TypeId(NIL)),
-        Typed::Refused(d, k, p) => Typed::Refused(d, k, p),
+        Typed::Refused(k, d, p) => Typed::Refused(k, d, p),
     }
 }
 
@@ -400,12 +400,12 @@ fn args(
                 Ruled::Done(h) => {
                     d = h;
                 }
-                Ruled::Refused(h, x, q) => {
-                    return Ruled::Refused(h, x, q);
+                Ruled::Refused(x, h, q) => {
+                    return Ruled::Refused(x, h, q);
                 }
             },
-            Typed::Refused(g, x, q) => {
-                return Ruled::Refused(g, x, q);
+            Typed::Refused(x, g, q) => {
+                return Ruled::Refused(x, g, q);
             }
         }
         i += 1;
@@ -432,7 +432,7 @@ fn verify(
     let d = rules::amounts(rows, cells, m, c, Span::Node(n), f, k as u16);
     match args(rows, cells, m, binds, level, d, n, Span::Node(n), f, t, 0) {
         Ruled::Done(e) => Typed::Type(e, o),
-        Ruled::Refused(e, a, p) => Typed::Refused(e, a, p),
+        Ruled::Refused(a, e, p) => Typed::Refused(a, e, p),
     }
 }
 
@@ -455,7 +455,7 @@ fn call(
             Called::Sig(g, o) => verify(rows, cells, m, binds, level, d, n, g, t, o),
             Called::Not(e) => Typed::Type(e, TypeId(ERR)),
         },
-        Typed::Refused(d, k, p) => Typed::Refused(d, k, p),
+        Typed::Refused(k, d, p) => Typed::Refused(k, d, p),
     }
 }
 
@@ -499,9 +499,9 @@ fn verify_m(
             1,
         ) {
             Ruled::Done(g) => Typed::Type(g, nodes::output(rows, cells, f)),
-            Ruled::Refused(g, a, p) => Typed::Refused(g, a, p),
+            Ruled::Refused(a, g, p) => Typed::Refused(a, g, p),
         },
-        Ruled::Refused(e, a, p) => Typed::Refused(e, a, p),
+        Ruled::Refused(a, e, p) => Typed::Refused(a, e, p),
     }
 }
 
@@ -525,7 +525,7 @@ fn mcall(
             Method::Of(f) => verify_m(rows, cells, m, binds, level, d, n, f, x, t),
             Method::Not(f) => Typed::Type(f, TypeId(ERR)),
         },
-        Typed::Refused(d, k, p) => Typed::Refused(d, k, p),
+        Typed::Refused(k, d, p) => Typed::Refused(k, d, p),
     }
 }
 
@@ -546,7 +546,7 @@ fn ret(
         MaybeNode::Absent => rules::returned(m, c, n, n, TypeId(NIL)),
         MaybeNode::Of(v) => match expr(rows, cells, m, binds, level, c, v) {
             Typed::Type(d, y) => rules::returned(m, d, n, v, y),
-            Typed::Refused(d, k, p) => Typed::Refused(d, k, p),
+            Typed::Refused(k, d, p) => Typed::Refused(k, d, p),
         },
     }
 }
@@ -569,7 +569,7 @@ fn local(
         MaybeNode::Absent => rules::let_without_init(m, c, n, t),
         MaybeNode::Of(v) => match expr(rows, cells, m, binds, level, c, v) {
             Typed::Type(d, y) => rules::let_with_init(m, d, n, t, y),
-            Typed::Refused(d, k, p) => Ruled::Refused(d, k, p),
+            Typed::Refused(k, d, p) => Ruled::Refused(k, d, p),
         },
     }
 }
@@ -590,7 +590,7 @@ fn stmt(
         nodes::Local::Let(t, e) => local(rows, cells, m, binds, level, c, n, t, e),
         nodes::Local::Not => match expr(rows, cells, m, binds, level, c, n) {
             Typed::Type(d, x) => Ruled::Done(d),
-            Typed::Refused(d, k, p) => Ruled::Refused(d, k, p),
+            Typed::Refused(k, d, p) => Ruled::Refused(k, d, p),
         },
     }
 }
@@ -616,8 +616,8 @@ fn stmts(
             Ruled::Done(e) => {
                 d = e;
             }
-            Ruled::Refused(e, a, p) => {
-                return Ruled::Refused(e, a, p);
+            Ruled::Refused(a, e, p) => {
+                return Ruled::Refused(a, e, p);
             }
         }
         i += 1;
@@ -658,7 +658,7 @@ fn block(
 {
     match stmts(rows, cells, m, binds, level, c, t) {
         Ruled::Done(d) => tail(rows, cells, m, binds, level, d, e),
-        Ruled::Refused(d, k, p) => Typed::Refused(d, k, p),
+        Ruled::Refused(k, d, p) => Typed::Refused(k, d, p),
     }
 }
 
@@ -697,7 +697,7 @@ fn inner(
 {
     match expr(rows, cells, m, binds, level, c, b) {
         Typed::Type(d, y) => rules::lambda(cells, m, d, n, b, o, y, t),
-        Typed::Refused(d, k, p) => Typed::Refused(d, k, p),
+        Typed::Refused(k, d, p) => Typed::Refused(k, d, p),
     }
 }
 
@@ -739,7 +739,7 @@ fn rule(
         Node::Bool => Typed::Type(c, TypeId(rules::BOOL)),
         Node::Int => rules::literal(m, c, Kind::Integer),
         Node::Float => rules::literal(m, c, Kind::Float),
-        Node::Str => Typed::Refused(c, 10, n),
+        Node::Str => Typed::Refused(10, c, n),
         Node::Bin(o, l, r) => bin(rows, cells, m, binds, level, c, n, o, l, r),
         Node::Un(o, e) => un(rows, cells, m, binds, level, c, o, e),
         Node::Field(e, name) => field(rows, cells, m, binds, level, c, e, name),
@@ -767,7 +767,7 @@ fn write_down(m: &mut [u16], n: NodeId, z: Typed)
 {
     match z {
         Typed::Type(d, t) => record::set_node_type(m, n, t),
-        Typed::Refused(d, k, p) => {}
+        Typed::Refused(k, d, p) => {}
     }
 }
 

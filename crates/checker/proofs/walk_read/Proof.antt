@@ -10,6 +10,7 @@ walk-read-spec =
     (λ c. search needs)
     (λ c. search needs)
     (λ c. search needs)
+    (λ c. search needs)
     (λ c. walk-done _ _ _ _ _ _ ((c .before .before .before .before .before .type-body .ensures)) _ ((c .before .c .given .1)))
     (λ c. search needs)
-    (λ c. walk-refused _ _ _ _ _ _ ((c .before .before .before .before .before .type-body .ensures)) _ _ _ ((c .before .c2 .given .1))))
+    (λ c. walk-refused _ _ _ _ _ _ ((c .before .before .before .before .before .type-body .ensures)) _ _ _ ((c .before .k .given .1))))

@@ -16,4 +16,4 @@ result-spec =
     (λ c. search needs)
     (λ c. ruled-done (result-on _ _ (equation-failed ((c .before .d2 .given .1)) ((c .before .before .before .before .before .equate .ensures) _))))
     (λ c. search needs)
-    (λ c. ruled-refused (result-off _ _ _ (equation-refused ((c .before .d3 .given .1)) ((c .before .before .before .before .before .equate .ensures) _)))))
+    (λ c. ruled-refused (result-off _ _ _ (equation-refused ((c .before .k .given .1)) ((c .before .before .before .before .before .equate .ensures) _)))))

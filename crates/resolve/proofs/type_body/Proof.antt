@@ -19,4 +19,4 @@ type-body-spec =
     (λ c. (c .before .before .resolve-nodes .kept .0) ∙ (c .before .before .before .before .before .before .before .before .before .typeck .kept .1 .1 .0) ∙ (c .before .before .before .before .before .before .before .before .before .before .before .before .before .params .kept .1 .1 .0) ∙ (c .before .before .before .before .before .before .before .before .before .before .before .before .before .before .before .before .before .declare-types .kept .1 .1 .0) ∙ (c .before .before .before .before .before .before .before .before .before .before .before .before .before .before .before .before .before .before .before .before .before .start .kept .0))
     (λ c. body-done _ _ _ _ ((c .before .before .before .before .before .before .before .before .before .before .before .before .before .before .before .before .before .before .before .before .before .before .before .before .before .before .fn-line .ensures)) _ ((c .before .before .before .before .before .before .before .before .before .before .before .before .before .before .before .before .before .before .before .before .before .start .ensures)) ((c .before .before .before .before .before .before .before .before .before .before .before .before .before .before .before .before .before .declare-types .ensures)) ((c .before .before .before .before .before .before .before .before .before .before .before .before .before .params .ensures) _) (rule-done ((c .before .before .before .before .before .e .given .1)) ((c .before .before .before .before .before .before .before .before .before .typeck .ensures))) ((c .before .before .resolve-nodes .ensures)))
     (λ c. (c .before .before .before .before .before .typeck .kept .1 .1 .0) ∙ (c .before .before .before .before .before .before .before .before .before .params .kept .1 .1 .0) ∙ (c .before .before .before .before .before .before .before .before .before .before .before .before .before .declare-types .kept .1 .1 .0) ∙ (c .before .before .before .before .before .before .before .before .before .before .before .before .before .before .before .before .before .start .kept .0))
-    (λ c. body-refused _ _ _ _ ((c .before .before .before .before .before .before .before .before .before .before .before .before .before .before .before .before .before .before .before .before .before .before .fn-line .ensures)) _ ((c .before .before .before .before .before .before .before .before .before .before .before .before .before .before .before .before .before .start .ensures)) ((c .before .before .before .before .before .before .before .before .before .before .before .before .before .declare-types .ensures)) ((c .before .before .before .before .before .before .before .before .before .params .ensures) _) _ _ (rule-refused ((c .before .e2 .given .1)) ((c .before .before .before .before .before .typeck .ensures)))))
+    (λ c. body-refused _ _ _ _ ((c .before .before .before .before .before .before .before .before .before .before .before .before .before .before .before .before .before .before .before .before .before .before .fn-line .ensures)) _ ((c .before .before .before .before .before .before .before .before .before .before .before .before .before .before .before .before .before .start .ensures)) ((c .before .before .before .before .before .before .before .before .before .before .before .before .before .declare-types .ensures)) ((c .before .before .before .before .before .before .before .before .before .params .ensures) _) _ _ (rule-refused ((c .before .k .given .1)) ((c .before .before .before .before .before .typeck .ensures)))))

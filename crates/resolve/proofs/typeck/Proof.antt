@@ -14,4 +14,4 @@ typeck-spec =
     (λ c. search needs)
     (λ c. typeck-on _ _ _ (type-is ((c .before .before .before .before .before .d .given .1)) ((c .before .before .before .before .before .before .before .before .before .body-type .ensures))) ((c .before .before .result .ensures)))
     (λ c. search needs)
-    (λ c. ruled-refused (typeck-off _ _ _ _ (type-refused ((c .before .d2 .given .1)) ((c .before .before .before .before .before .body-type .ensures))))))
+    (λ c. ruled-refused (typeck-off _ _ _ _ (type-refused ((c .before .k .given .1)) ((c .before .before .before .before .before .body-type .ensures))))))

@@ -18,4 +18,4 @@ bin-op-spec =
     (λ c. search needs)
     (λ c. typed-type (bin-failed _ _ _ _ _ _ _ ((c .before .before .before .before .before .before .between .ensures)) (equation-failed ((c .before .d2 .given .1)) ((c .before .before .before .before .before .equate .ensures) _))))
     (λ c. search needs)
-    (λ c. typed-refused (bin-refused _ _ _ _ _ _ _ ((c .before .before .before .before .before .before .between .ensures)) _ (equation-refused ((c .before .d3 .given .1)) ((c .before .before .before .before .before .equate .ensures) _)))))
+    (λ c. typed-refused (bin-refused _ _ _ _ _ _ _ ((c .before .before .before .before .before .before .between .ensures)) _ (equation-refused ((c .before .k .given .1)) ((c .before .before .before .before .before .equate .ensures) _)))))

@@ -16,4 +16,4 @@ equate-for-spec =
     (λ c. search needs)
     (λ c. typed-type (equated-for _ _ _ _ _ (equation-failed ((c .before .d2 .given .1)) ((c .before .before .before .before .before .equate .ensures) _))))
     (λ c. search needs)
-    (λ c. typed-refused (equated-for-refused _ _ _ _ _ _ (equation-refused ((c .before .d3 .given .1)) ((c .before .before .before .before .before .equate .ensures) _)))))
+    (λ c. typed-refused (equated-for-refused _ _ _ _ _ _ (equation-refused ((c .before .k .given .1)) ((c .before .before .before .before .before .equate .ensures) _)))))

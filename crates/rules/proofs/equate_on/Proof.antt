@@ -16,4 +16,4 @@ equate-on-spec =
     (λ c. search needs)
     (λ c. ruled-done (equated-on _ _ _ _ (equation-failed ((c .before .d2 .given .1)) ((c .before .before .before .before .before .equate .ensures) _))))
     (λ c. search needs)
-    (λ c. ruled-refused (equated-on-refused _ _ _ _ _ (equation-refused ((c .before .d3 .given .1)) ((c .before .before .before .before .before .equate .ensures) _)))))
+    (λ c. ruled-refused (equated-on-refused _ _ _ _ _ (equation-refused ((c .before .k .given .1)) ((c .before .before .before .before .before .equate .ensures) _)))))

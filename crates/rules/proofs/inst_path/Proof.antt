@@ -19,5 +19,5 @@ inst-path-spec =
     (λ c. search needs)
     (λ c. inst-found _ _ _ _ ((c .before .before .before .before .before .before .before .before .before .before .before .before .before .if1 .taken)) _ _ ((c .before .before .before .before .before .before .before .before .before .before .before .before .segment-name .ensures)) ((c .before .before .before .before .before .before .before .before .before .before .before .segment-res .ensures)) _ (type-is ((c .before .before .before .before .before .d .given .1)) ((c .before .before .before .before .before .before .before .before .before .type-res .ensures))) ((c .before .before .path-method .ensures)))
     (λ c. search needs)
-    (λ c. typed-refused (inst-refused _ _ _ _ ((c .before .before .before .before .before .before .before .before .before .if1 .taken)) _ _ ((c .before .before .before .before .before .before .before .before .segment-name .ensures)) ((c .before .before .before .before .before .before .before .segment-res .ensures)) _ _ (type-refused ((c .before .d2 .given .1)) ((c .before .before .before .before .before .type-res .ensures)))))
+    (λ c. typed-refused (inst-refused _ _ _ _ ((c .before .before .before .before .before .before .before .before .before .if1 .taken)) _ _ ((c .before .before .before .before .before .before .before .before .segment-name .ensures)) ((c .before .before .before .before .before .before .before .segment-res .ensures)) _ _ (type-refused ((c .before .a .given .1)) ((c .before .before .before .before .before .type-res .ensures)))))
     (λ c. typed-refused (inst-short _ _ _ _ ((c .if1 .left)))))

@@ -15,4 +15,4 @@ lambda-spec =
     (λ c. search needs)
     (λ c. lambda-made _ _ _ _ _ _ _ ((c .before .before .before .before .before .before .before .before .before .before .mismatch .ensures)) (rule-done ((c .before .before .before .before .before .d .given .1)) ((c .before .before .before .before .before .before .before .before .before .equate-on .ensures))) ((c .before .before .lambda-type .ensures)))
     (λ c. search needs)
-    (λ c. typed-refused (lambda-refused _ _ _ _ _ _ _ _ _ ((c .before .before .before .before .before .before .mismatch .ensures)) (rule-refused ((c .before .d2 .given .1)) ((c .before .before .before .before .before .equate-on .ensures))))))
+    (λ c. typed-refused (lambda-refused _ _ _ _ _ _ _ _ _ ((c .before .before .before .before .before .before .mismatch .ensures)) (rule-refused ((c .before .k .given .1)) ((c .before .before .before .before .before .equate-on .ensures))))))

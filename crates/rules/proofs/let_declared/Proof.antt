@@ -21,4 +21,4 @@ let-declared-spec =
     (λ c. search needs)
     (λ c. ruled-done (let-both _ _ _ _ ((c .before .before .before .before .before .before .before .before .before .before .before .before .before .before .mismatch .ensures)) (equation-failed ((c .before .before .before .before .before .before .before .before .before .d2 .given .1)) ((c .before .before .before .before .before .before .before .before .before .before .before .before .before .equate .ensures) _)) ((c .before .before .before .before .before .before .set-extra2 .ensures) _) ((c .before .before .set-node-type2 .ensures) _)))
     (λ c. search needs)
-    (λ c. ruled-refused (let-refused _ _ _ _ _ ((c .before .before .before .before .before .before .mismatch .ensures)) (equation-refused ((c .before .d3 .given .1)) ((c .before .before .before .before .before .equate .ensures) _)))))
+    (λ c. ruled-refused (let-refused _ _ _ _ _ ((c .before .before .before .before .before .before .mismatch .ensures)) (equation-refused ((c .before .k .given .1)) ((c .before .before .before .before .before .equate .ensures) _)))))

@@ -14,4 +14,4 @@ whole-path-spec =
     (λ c. search needs)
     (λ c. typed-type (whole-is _ _ _ (type-is ((c .before .before .before .before .before .d .given .1)) ((c .before .before .before .before .before .before .before .before .before .type-res .ensures))) ((c .before .before .set-extra .ensures) _)))
     (λ c. search needs)
-    (λ c. typed-refused (whole-refused _ _ _ _ (type-refused ((c .before .d2 .given .1)) ((c .before .before .before .before .before .type-res .ensures))))))
+    (λ c. typed-refused (whole-refused _ _ _ _ (type-refused ((c .before .k .given .1)) ((c .before .before .before .before .before .type-res .ensures))))))

@@ -459,10 +459,10 @@ args-met t =
     (λ c. search needs)
     (λ c. search needs)
     (λ c. (c .before .before .before .before .before .argument .kept .1 .1 .0) ∙ (c .before .before .before .before .before .before .before .before .before .before .before .before .expr .kept .1 .1 .0) ∙ (c .before .before .before .before .before .before .before .before .before .before .before .before .before .before .before .before .loop .inv .1))
-    (λ c. ruled-refused (args-refused _ _ _ _ _ _ _ _ _ _ ((c .before .before .before .before .before .before .before .before .before .before .before .before .before .before .before .loop-test .taken)) ((c .before .before .before .before .before .before .before .before .before .before .before .before .before .before .item .ensures)) ((c .before .before .before .before .before .before .before .before .before .before .before .before .before .before .before .before .loop .inv .0)) _ _ _ (type-is ((c .before .before .before .before .before .before .before .before .g .given .1)) ((c .before .before .before .before .before .before .before .before .before .before .before .before .expr .ensures))) (rule-refused ((c .before .h2 .given .1)) ((c .before .before .before .before .before .argument .ensures)))))
+    (λ c. ruled-refused (args-refused _ _ _ _ _ _ _ _ _ _ ((c .before .before .before .before .before .before .before .before .before .before .before .before .before .before .before .loop-test .taken)) ((c .before .before .before .before .before .before .before .before .before .before .before .before .before .before .item .ensures)) ((c .before .before .before .before .before .before .before .before .before .before .before .before .before .before .before .before .loop .inv .0)) _ _ _ (type-is ((c .before .before .before .before .before .before .before .before .g .given .1)) ((c .before .before .before .before .before .before .before .before .before .before .before .before .expr .ensures))) (rule-refused ((c .before .x .given .1)) ((c .before .before .before .before .before .argument .ensures)))))
     (λ c. search needs)
     (λ c. (c .before .before .before .before .before .expr .kept .1 .1 .0) ∙ (c .before .before .before .before .before .before .before .before .before .loop .inv .1))
-    (λ c. ruled-refused (args-stop _ _ _ _ _ _ _ _ _ _ ((c .before .before .before .before .before .before .before .before .loop-test .taken)) ((c .before .before .before .before .before .before .before .item .ensures)) ((c .before .before .before .before .before .before .before .before .before .loop .inv .0)) _ _ (type-refused ((c .before .g2 .given .1)) ((c .before .before .before .before .before .expr .ensures)))))
+    (λ c. ruled-refused (args-stop _ _ _ _ _ _ _ _ _ _ ((c .before .before .before .before .before .before .before .before .loop-test .taken)) ((c .before .before .before .before .before .before .before .item .ensures)) ((c .before .before .before .before .before .before .before .before .before .loop .inv .0)) _ _ (type-refused ((c .before .x2 .given .1)) ((c .before .before .before .before .before .expr .ensures)))))
     (λ c. omega (arith, (c .before .before .before .before .before .before .before .before .before .before .before .before .before .before .before .loop-test .taken), (c .before .before .before .before .before .before .before .before .before .before .before .before .before .before .before .before .loop .inv .2)))
     (λ c. omega (arith, (c .before .before .before .before .before .before .before .before .before .before .before .before .before .before .before .loop-test .taken)))
     (λ c. (args-next _ _ _ _ _ _ _ _ _ _ ((c .before .before .before .before .before .before .before .before .before .before .before .before .before .before .before .loop-test .taken)) ((c .before .before .before .before .before .before .before .before .before .before .before .before .before .before .item .ensures)) ((c .before .before .before .before .before .before .before .before .before .before .before .before .before .before .before .before .loop .inv .0)) _ (type-is ((c .before .before .before .before .before .before .before .before .g .given .1)) ((c .before .before .before .before .before .before .before .before .before .before .before .before .expr .ensures))) (rule-done ((c .before .h .given .1)) ((c .before .before .before .before .before .argument .ensures))), (c .before .before .before .before .before .argument .kept .1 .1 .0) ∙ (c .before .before .before .before .before .before .before .before .before .before .before .before .expr .kept .1 .1 .0) ∙ (c .before .before .before .before .before .before .before .before .before .before .before .before .before .before .before .before .loop .inv .1), (c .before .before .before .before .before .before .before .before .before .before .before .before .before .before .before .before .loop .inv .2)))
@@ -479,7 +479,7 @@ assign-met t =
     (λ c. search needs)
     (λ c. assign-on _ _ _ _ _ _ _ (pair-types ((c .before .before .before .before .before .d .given .1)) ((c .before .before .before .before .before .before .before .before .before .two .ensures))) ((c .before .before .assign .ensures)))
     (λ c. search needs)
-    (λ c. typed-refused (assign-off _ _ _ _ _ _ _ (pair-refused ((c .before .d2 .given .1)) ((c .before .before .before .before .before .two .ensures)))))
+    (λ c. typed-refused (assign-off _ _ _ _ _ _ _ (pair-refused ((c .before .k .given .1)) ((c .before .before .before .before .before .two .ensures)))))
 
 bin-met : {M : Type 1} (t : ℕ) → bin-lts.Closed (two-below t, two.Post, bin-op-reads.Asked, bin-op-reads.Learnt) (bin-at t) bin.Post M
 bin-met t =
@@ -491,7 +491,7 @@ bin-met t =
     (λ c. search needs)
     (λ c. bin-on _ _ _ _ _ _ _ _ (pair-types ((c .before .before .before .before .before .d .given .1)) ((c .before .before .before .before .before .before .before .before .before .two .ensures))) ((c .before .before .bin-op .ensures)))
     (λ c. search needs)
-    (λ c. typed-refused (bin-off _ _ _ _ _ _ _ _ (pair-refused ((c .before .d2 .given .1)) ((c .before .before .before .before .before .two .ensures)))))
+    (λ c. typed-refused (bin-off _ _ _ _ _ _ _ _ (pair-refused ((c .before .k .given .1)) ((c .before .before .before .before .before .two .ensures)))))
 
 block-met : {M : Type 1} (t : ℕ) → block-lts.Closed (stmts-below t, stmts.Post, tail-below t, tail.Post) (block-at t) block.Post M
 block-met t =
@@ -503,7 +503,7 @@ block-met t =
     (λ c. search needs)
     (λ c. block-on _ _ _ _ (rule-done ((c .before .before .before .before .before .d .given .1)) ((c .before .before .before .before .before .before .before .before .before .stmts .ensures))) ((c .before .before .tail .ensures)))
     (λ c. search needs)
-    (λ c. typed-refused (block-off _ _ _ _ _ _ (rule-refused ((c .before .d2 .given .1)) ((c .before .before .before .before .before .stmts .ensures)))))
+    (λ c. typed-refused (block-off _ _ _ _ _ _ (rule-refused ((c .before .k .given .1)) ((c .before .before .before .before .before .stmts .ensures)))))
 
 body-of-met : {M : Type 1} (t : ℕ) → body-of-lts.Closed (block-of-reads.Asked, block-of-reads.Learnt, block-below t, block.Post) (body-of-at t) body-of.Post M
 body-of-met t =
@@ -526,7 +526,7 @@ branch-met t =
     (λ c. search needs)
     (λ c. branches-on _ _ _ _ _ _ (type-is ((c .before .before .before .before .before .d .given .1)) ((c .before .before .before .before .before .before .before .before .before .body-of .ensures))) ((c .before .before .other .ensures)))
     (λ c. search needs)
-    (λ c. typed-refused (branches-off _ _ _ _ _ _ _ (type-refused ((c .before .d2 .given .1)) ((c .before .before .before .before .before .body-of .ensures)))))
+    (λ c. typed-refused (branches-off _ _ _ _ _ _ _ (type-refused ((c .before .k .given .1)) ((c .before .before .before .before .before .body-of .ensures)))))
 
 call-met : {M : Type 1} (t : ℕ) → call-lts.Closed (expr-below t, expr.Post, callee-reads.Asked, callee-reads.Learnt, verify-below t, verify.Post) (call-at t) call.Post M
 call-met t =
@@ -543,7 +543,7 @@ call-met t =
     (λ c. search needs)
     (λ c. typed-type (call-none _ _ _ _ _ _ (type-is ((c .before .before .before .before .before .before .before .before .d .given .1)) ((c .before .before .before .before .before .before .before .before .before .before .before .before .expr .ensures))) (callee-not ((c .before .e .given .1)) ((c .before .before .before .before .before .callee .ensures)))))
     (λ c. search needs)
-    (λ c. typed-refused (call-off _ _ _ _ _ _ _ (type-refused ((c .before .d2 .given .1)) ((c .before .before .before .before .before .expr .ensures)))))
+    (λ c. typed-refused (call-off _ _ _ _ _ _ _ (type-refused ((c .before .k .given .1)) ((c .before .before .before .before .before .expr .ensures)))))
 
 cond-met : {M : Type 1} (t : ℕ) → cond-lts.Closed (expr-below t, expr.Post, condition-reads.Asked, condition-reads.Learnt, branch-below t, branch.Post) (cond-at t) cond.Post M
 cond-met t =
@@ -556,7 +556,7 @@ cond-met t =
     (λ c. search needs)
     (λ c. if-on _ _ _ _ _ _ _ (type-is ((c .before .before .before .before .before .before .before .before .before .d .given .1)) ((c .before .before .before .before .before .before .before .before .before .before .before .before .before .expr .ensures))) ((c .before .before .before .before .before .before .condition .ensures)) ((c .before .before .branch .ensures)))
     (λ c. search needs)
-    (λ c. typed-refused (if-off _ _ _ _ _ _ _ _ (type-refused ((c .before .d2 .given .1)) ((c .before .before .before .before .before .expr .ensures)))))
+    (λ c. typed-refused (if-off _ _ _ _ _ _ _ _ (type-refused ((c .before .k .given .1)) ((c .before .before .before .before .before .expr .ensures)))))
 
 elements-met : {M : Type 1} (t : ℕ) → elements-lts.Closed (item-reads.Asked, item-reads.Learnt, expr-below t, expr.Post, element-reads.Asked, element-reads.Learnt) (elements-at t) elements.Post M
 elements-met t =
@@ -569,10 +569,10 @@ elements-met t =
     (λ c. search needs)
     (λ c. search needs)
     (λ c. (c .before .before .before .before .before .element .kept .0) ∙ (c .before .before .before .before .before .before .before .before .before .before .before .before .expr .kept .1 .1 .0) ∙ (c .before .before .before .before .before .before .before .before .before .before .before .before .before .before .before .before .loop .inv .1))
-    (λ c. ruled-refused (elements-refused _ _ _ _ _ _ _ _ ((c .before .before .before .before .before .before .before .before .before .before .before .before .before .before .before .loop-test .taken)) ((c .before .before .before .before .before .before .before .before .before .before .before .before .before .before .item .ensures)) ((c .before .before .before .before .before .before .before .before .before .before .before .before .before .before .before .before .loop .inv .0)) _ _ _ (type-is ((c .before .before .before .before .before .before .before .before .f .given .1)) ((c .before .before .before .before .before .before .before .before .before .before .before .before .expr .ensures))) (rule-refused ((c .before .g2 .given .1)) ((c .before .before .before .before .before .element .ensures)))))
+    (λ c. ruled-refused (elements-refused _ _ _ _ _ _ _ _ ((c .before .before .before .before .before .before .before .before .before .before .before .before .before .before .before .loop-test .taken)) ((c .before .before .before .before .before .before .before .before .before .before .before .before .before .before .item .ensures)) ((c .before .before .before .before .before .before .before .before .before .before .before .before .before .before .before .before .loop .inv .0)) _ _ _ (type-is ((c .before .before .before .before .before .before .before .before .f .given .1)) ((c .before .before .before .before .before .before .before .before .before .before .before .before .expr .ensures))) (rule-refused ((c .before .a .given .1)) ((c .before .before .before .before .before .element .ensures)))))
     (λ c. search needs)
     (λ c. (c .before .before .before .before .before .expr .kept .1 .1 .0) ∙ (c .before .before .before .before .before .before .before .before .before .loop .inv .1))
-    (λ c. ruled-refused (elements-stop _ _ _ _ _ _ _ _ ((c .before .before .before .before .before .before .before .before .loop-test .taken)) ((c .before .before .before .before .before .before .before .item .ensures)) ((c .before .before .before .before .before .before .before .before .before .loop .inv .0)) _ _ (type-refused ((c .before .f2 .given .1)) ((c .before .before .before .before .before .expr .ensures)))))
+    (λ c. ruled-refused (elements-stop _ _ _ _ _ _ _ _ ((c .before .before .before .before .before .before .before .before .loop-test .taken)) ((c .before .before .before .before .before .before .before .item .ensures)) ((c .before .before .before .before .before .before .before .before .before .loop .inv .0)) _ _ (type-refused ((c .before .a2 .given .1)) ((c .before .before .before .before .before .expr .ensures)))))
     (λ c. omega (arith, (c .before .before .before .before .before .before .before .before .before .before .before .before .before .before .before .loop-test .taken), (c .before .before .before .before .before .before .before .before .before .before .before .before .before .before .before .before .loop .inv .2)))
     (λ c. omega (arith, (c .before .before .before .before .before .before .before .before .before .before .before .before .before .before .before .loop-test .taken)))
     (λ c. (elements-next _ _ _ _ _ _ _ _ ((c .before .before .before .before .before .before .before .before .before .before .before .before .before .before .before .loop-test .taken)) ((c .before .before .before .before .before .before .before .before .before .before .before .before .before .before .item .ensures)) ((c .before .before .before .before .before .before .before .before .before .before .before .before .before .before .before .before .loop .inv .0)) _ (type-is ((c .before .before .before .before .before .before .before .before .f .given .1)) ((c .before .before .before .before .before .before .before .before .before .before .before .before .expr .ensures))) (rule-done ((c .before .g .given .1)) ((c .before .before .before .before .before .element .ensures))), (c .before .before .before .before .before .element .kept .0) ∙ (c .before .before .before .before .before .before .before .before .before .before .before .before .expr .kept .1 .1 .0) ∙ (c .before .before .before .before .before .before .before .before .before .before .before .before .before .before .before .before .loop .inv .1), (c .before .before .before .before .before .before .before .before .before .before .before .before .before .before .before .before .loop .inv .2)))
@@ -599,7 +599,7 @@ field-met t =
     (λ c. search needs)
     (λ c. field-on _ _ _ _ _ (type-is ((c .before .before .before .before .before .d .given .1)) ((c .before .before .before .before .before .before .before .before .before .expr .ensures))) ((c .before .before .field .ensures)))
     (λ c. search needs)
-    (λ c. typed-refused (field-off _ _ _ _ _ _ (type-refused ((c .before .d2 .given .1)) ((c .before .before .before .before .before .expr .ensures)))))
+    (λ c. typed-refused (field-off _ _ _ _ _ _ (type-refused ((c .before .k .given .1)) ((c .before .before .before .before .before .expr .ensures)))))
 
 index-met : {M : Type 1} (t : ℕ) → index-lts.Closed (expr-below t, expr.Post, element-of-reads.Asked, element-of-reads.Learnt, index-in-below t, index-in.Post) (index-at t) index.Post M
 index-met t =
@@ -616,7 +616,7 @@ index-met t =
     (λ c. search needs)
     (λ c. typed-type (index-none _ _ _ _ _ _ (type-is ((c .before .before .before .before .before .before .before .before .d .given .1)) ((c .before .before .before .before .before .before .before .before .before .before .before .before .expr .ensures))) (element-not ((c .before .f .given .1)) ((c .before .before .before .before .before .element-of .ensures)))))
     (λ c. search needs)
-    (λ c. typed-refused (index-off _ _ _ _ _ _ _ (type-refused ((c .before .d2 .given .1)) ((c .before .before .before .before .before .expr .ensures)))))
+    (λ c. typed-refused (index-off _ _ _ _ _ _ _ (type-refused ((c .before .k .given .1)) ((c .before .before .before .before .before .expr .ensures)))))
 
 index-in-met : {M : Type 1} (t : ℕ) → index-in-lts.Closed (expr-below t, expr.Post, index-reads.Asked, index-reads.Learnt) (index-in-at t) index-in.Post M
 index-in-met t =
@@ -628,7 +628,7 @@ index-in-met t =
     (λ c. search needs)
     (λ c. index-in-on _ _ _ _ _ _ (type-is ((c .before .before .before .before .before .d .given .1)) ((c .before .before .before .before .before .before .before .before .before .expr .ensures))) ((c .before .before .index .ensures)))
     (λ c. search needs)
-    (λ c. typed-refused (index-in-off _ _ _ _ _ _ _ (type-refused ((c .before .d2 .given .1)) ((c .before .before .before .before .before .expr .ensures)))))
+    (λ c. typed-refused (index-in-off _ _ _ _ _ _ _ (type-refused ((c .before .k .given .1)) ((c .before .before .before .before .before .expr .ensures)))))
 
 inner-met : {M : Type 1} (t : ℕ) → inner-lts.Closed (expr-below t, expr.Post, lambda-reads.Asked, lambda-reads.Learnt) (inner-at t) inner.Post M
 inner-met t =
@@ -640,7 +640,7 @@ inner-met t =
     (λ c. search needs)
     (λ c. inner-on _ _ _ _ _ _ _ (type-is ((c .before .before .before .before .before .d .given .1)) ((c .before .before .before .before .before .before .before .before .before .expr .ensures))) ((c .before .before .lambda .ensures)))
     (λ c. search needs)
-    (λ c. typed-refused (inner-off _ _ _ _ _ _ _ _ (type-refused ((c .before .d2 .given .1)) ((c .before .before .before .before .before .expr .ensures)))))
+    (λ c. typed-refused (inner-off _ _ _ _ _ _ _ _ (type-refused ((c .before .k .given .1)) ((c .before .before .before .before .before .expr .ensures)))))
 
 lambda-met : {M : Type 1} (t : ℕ) → lambda-lts.Closed (lambda-params-reads.Asked, lambda-params-reads.Learnt, lambda-output-reads.Asked, lambda-output-reads.Learnt, inner-below t, inner.Post) (lambda-at t) lambda.Post M
 lambda-met t =
@@ -665,7 +665,7 @@ list-met t =
     (λ c. search needs)
     (λ c. list-on _ _ _ _ _ _ ((c .before .before .before .before .before .before .before .before .before .before .before .before .if1 .left)) ((c .before .before .before .before .before .before .before .before .before .before .before .item .ensures)) (type-is ((c .before .before .before .before .before .d .given .1)) ((c .before .before .before .before .before .before .before .before .before .expr .ensures))) ((c .before .before .rest .ensures)))
     (λ c. search needs)
-    (λ c. typed-refused (list-off _ _ _ _ _ _ _ ((c .before .before .before .before .before .before .before .before .if1 .left)) ((c .before .before .before .before .before .before .before .item .ensures)) (type-refused ((c .before .d2 .given .1)) ((c .before .before .before .before .before .expr .ensures)))))
+    (λ c. typed-refused (list-off _ _ _ _ _ _ _ ((c .before .before .before .before .before .before .before .before .if1 .left)) ((c .before .before .before .before .before .before .before .item .ensures)) (type-refused ((c .before .a .given .1)) ((c .before .before .before .before .before .expr .ensures)))))
 
 local-met : {M : Type 1} (t : ℕ) → local-lts.Closed (let-without-init-reads.Asked, let-without-init-reads.Learnt, expr-below t, expr.Post, let-with-init-reads.Asked, let-with-init-reads.Learnt) (local-at t) local.Post M
 local-met t =
@@ -682,7 +682,7 @@ local-met t =
     (λ c. search needs)
     (λ c. local-on _ _ _ _ _ _ _ ((c .before .before .before .before .before .before .before .before .before .before .before .before .e .given .1)) (type-is ((c .before .before .before .before .before .d .given .1)) ((c .before .before .before .before .before .before .before .before .before .expr .ensures))) ((c .before .before .let-with-init .ensures)))
     (λ c. search needs)
-    (λ c. ruled-refused (local-off _ _ _ _ _ _ _ _ ((c .before .before .before .before .before .before .before .before .e .given .1)) (type-refused ((c .before .d2 .given .1)) ((c .before .before .before .before .before .expr .ensures)))))
+    (λ c. ruled-refused (local-off _ _ _ _ _ _ _ _ ((c .before .before .before .before .before .before .before .before .e .given .1)) (type-refused ((c .before .k .given .1)) ((c .before .before .before .before .before .expr .ensures)))))
 
 looped-met : {M : Type 1} (t : ℕ) → looped-lts.Closed (body-of-below t, body-of.Post) (looped-at t) looped.Post M
 looped-met t =
@@ -693,7 +693,7 @@ looped-met t =
     (λ c. search needs)
     (λ c. typed-type (loop-on _ _ _ _ (type-is ((c .before .d .given .1)) ((c .before .before .before .before .before .body-of .ensures)))))
     (λ c. search needs)
-    (λ c. typed-refused (loop-off _ _ _ _ _ (type-refused ((c .before .d2 .given .1)) ((c .before .before .before .before .before .body-of .ensures)))))
+    (λ c. typed-refused (loop-off _ _ _ _ _ (type-refused ((c .before .k .given .1)) ((c .before .before .before .before .before .body-of .ensures)))))
 
 mcall-met : {M : Type 1} (t : ℕ) → mcall-lts.Closed (expr-below t, expr.Post, method-of-reads.Asked, method-of-reads.Learnt, verify-m-below t, verify-m.Post) (mcall-at t) mcall.Post M
 mcall-met t =
@@ -710,7 +710,7 @@ mcall-met t =
     (λ c. search needs)
     (λ c. typed-type (meth-call-none _ _ _ _ _ _ _ (type-is ((c .before .before .before .before .before .before .before .before .d .given .1)) ((c .before .before .before .before .before .before .before .before .before .before .before .before .expr .ensures))) (method-not ((c .before .f2 .given .1)) ((c .before .before .before .before .before .method-of .ensures)))))
     (λ c. search needs)
-    (λ c. typed-refused (meth-call-off _ _ _ _ _ _ _ _ (type-refused ((c .before .d2 .given .1)) ((c .before .before .before .before .before .expr .ensures)))))
+    (λ c. typed-refused (meth-call-off _ _ _ _ _ _ _ _ (type-refused ((c .before .k .given .1)) ((c .before .before .before .before .before .expr .ensures)))))
 
 opassign-met : {M : Type 1} (t : ℕ) → opassign-lts.Closed (two-below t, two.Post, op-assign-reads.Asked, op-assign-reads.Learnt) (opassign-at t) opassign.Post M
 opassign-met t =
@@ -722,7 +722,7 @@ opassign-met t =
     (λ c. search needs)
     (λ c. op-assign-on _ _ _ _ _ _ _ (pair-types ((c .before .before .before .before .before .d .given .1)) ((c .before .before .before .before .before .before .before .before .before .two .ensures))) ((c .before .before .op-assign .ensures)))
     (λ c. search needs)
-    (λ c. typed-refused (op-assign-off _ _ _ _ _ _ _ (pair-refused ((c .before .d2 .given .1)) ((c .before .before .before .before .before .two .ensures)))))
+    (λ c. typed-refused (op-assign-off _ _ _ _ _ _ _ (pair-refused ((c .before .k .given .1)) ((c .before .before .before .before .before .two .ensures)))))
 
 other-met : {M : Type 1} (t : ℕ) → other-lts.Closed (expr-below t, expr.Post, branches-reads.Asked, branches-reads.Learnt) (other-at t) other.Post M
 other-met t =
@@ -737,7 +737,7 @@ other-met t =
     (λ c. search needs)
     (λ c. else-on _ _ _ _ _ _ _ ((c .before .before .before .before .before .before .before .before .before .before .before .before .e .given .1)) (type-is ((c .before .before .before .before .before .d .given .1)) ((c .before .before .before .before .before .before .before .before .before .expr .ensures))) ((c .before .before .branches .ensures)))
     (λ c. search needs)
-    (λ c. typed-refused (else-off _ _ _ _ _ _ _ _ ((c .before .before .before .before .before .before .before .before .e .given .1)) (type-refused ((c .before .d2 .given .1)) ((c .before .before .before .before .before .expr .ensures)))))
+    (λ c. typed-refused (else-off _ _ _ _ _ _ _ _ ((c .before .before .before .before .before .before .before .before .e .given .1)) (type-refused ((c .before .k .given .1)) ((c .before .before .before .before .before .expr .ensures)))))
 
 rest-met : {M : Type 1} (t : ℕ) → rest-lts.Closed (elements-below t, elements.Post, list-of-reads.Asked, list-of-reads.Learnt) (rest-at t) rest.Post M
 rest-met t =
@@ -749,7 +749,7 @@ rest-met t =
     (λ c. search needs)
     (λ c. rest-on _ _ _ _ _ (rule-done ((c .before .before .before .before .before .d .given .1)) ((c .before .before .before .before .before .before .before .before .before .elements .ensures))) ((c .before .before .list-of .ensures)))
     (λ c. search needs)
-    (λ c. typed-refused (rest-off _ _ _ _ _ _ _ (rule-refused ((c .before .d2 .given .1)) ((c .before .before .before .before .before .elements .ensures)))))
+    (λ c. typed-refused (rest-off _ _ _ _ _ _ _ (rule-refused ((c .before .k .given .1)) ((c .before .before .before .before .before .elements .ensures)))))
 
 ret-met : {M : Type 1} (t : ℕ) → ret-lts.Closed (returned-reads.Asked, returned-reads.Learnt, expr-below t, expr.Post) (ret-at t) ret.Post M
 ret-met t =
@@ -766,7 +766,7 @@ ret-met t =
     (λ c. search needs)
     (λ c. return-on _ _ _ _ _ _ ((c .before .before .before .before .before .before .before .before .before .before .before .before .e .given .1)) (type-is ((c .before .before .before .before .before .d .given .1)) ((c .before .before .before .before .before .before .before .before .before .expr .ensures))) ((c .before .before .returned2 .ensures)))
     (λ c. search needs)
-    (λ c. typed-refused (return-off _ _ _ _ _ _ _ ((c .before .before .before .before .before .before .before .before .e .given .1)) (type-refused ((c .before .d2 .given .1)) ((c .before .before .before .before .before .expr .ensures)))))
+    (λ c. typed-refused (return-off _ _ _ _ _ _ _ ((c .before .before .before .before .before .before .before .before .e .given .1)) (type-refused ((c .before .k .given .1)) ((c .before .before .before .before .before .expr .ensures)))))
 
 rule-met : {M : Type 1} (t : ℕ) → rule-lts.Closed (view-reads.Asked, view-reads.Learnt, literal-reads.Asked, literal-reads.Learnt, bin-below t, bin.Post, un-below t, un.Post, field-below t, field.Post, list-below t, list.Post, index-below t, index.Post, assign-below t, assign.Post, opassign-below t, opassign.Post, cond-below t, cond.Post, looped-below t, looped.Post, call-below t, call.Post, mcall-below t, mcall.Post, ret-below t, ret.Post, block-below t, block.Post, lambda-below t, lambda.Post, path-reads.Asked, path-reads.Learnt) (rule-at t) rule.Post M
 rule-met t =
@@ -866,7 +866,7 @@ stmt-met t =
     (λ c. search needs)
     (λ c. ruled-done (stmt-expr _ _ _ _ _ (sym ((c .before .before .before .before .before .before .before .before .before .let-of .ensures)) ∙ (c .before .before .before .before .before .before .before .enum-told .given .1)) (type-is ((c .before .d .given .1)) ((c .before .before .before .before .before .expr .ensures)))))
     (λ c. search needs)
-    (λ c. ruled-refused (stmt-off _ _ _ _ _ _ (sym ((c .before .before .before .before .before .before .before .before .before .let-of .ensures)) ∙ (c .before .before .before .before .before .before .before .enum-told .given .1)) (type-refused ((c .before .d2 .given .1)) ((c .before .before .before .before .before .expr .ensures)))))
+    (λ c. ruled-refused (stmt-off _ _ _ _ _ _ (sym ((c .before .before .before .before .before .before .before .before .before .let-of .ensures)) ∙ (c .before .before .before .before .before .before .before .enum-told .given .1)) (type-refused ((c .before .k .given .1)) ((c .before .before .before .before .before .expr .ensures)))))
 
 stmts-met : {M : Type 1} (t : ℕ) → stmts-lts.Closed (item-reads.Asked, item-reads.Learnt, stmt-below t, stmt.Post) (stmts-at t) stmts.Post M
 stmts-met t =
@@ -877,7 +877,7 @@ stmts-met t =
     (λ c. search needs)
     (λ c. search needs)
     (λ c. search needs)
-    (λ c. ruled-refused (stmts-stop _ _ _ _ _ _ ((c .before .before .before .before .before .before .before .before .loop-test .taken)) ((c .before .before .before .before .before .before .before .item .ensures)) ((c .before .before .before .before .before .before .before .before .before .loop .inv .0)) _ _ (rule-refused ((c .before .e2 .given .1)) ((c .before .before .before .before .before .stmt .ensures)))))
+    (λ c. ruled-refused (stmts-stop _ _ _ _ _ _ ((c .before .before .before .before .before .before .before .before .loop-test .taken)) ((c .before .before .before .before .before .before .before .item .ensures)) ((c .before .before .before .before .before .before .before .before .before .loop .inv .0)) _ _ (rule-refused ((c .before .a .given .1)) ((c .before .before .before .before .before .stmt .ensures)))))
     (λ c. omega (arith, (c .before .before .before .before .before .before .before .before .loop-test .taken), (c .before .before .before .before .before .before .before .before .before .loop .inv .2)))
     (λ c. omega (arith, (c .before .before .before .before .before .before .before .before .loop-test .taken)))
     (λ c. (stmts-next _ _ _ _ _ _ ((c .before .before .before .before .before .before .before .before .loop-test .taken)) ((c .before .before .before .before .before .before .before .item .ensures)) ((c .before .before .before .before .before .before .before .before .before .loop .inv .0)) (rule-done ((c .before .e .given .1)) ((c .before .before .before .before .before .stmt .ensures))), search needs, search needs))
@@ -906,9 +906,9 @@ two-met t =
     (λ c. search needs)
     (λ c. record { by = two-both _ _ _ _ _ _ (type-is ((c .before .before .before .before .before .before .before .before .d .given .1)) ((c .before .before .before .before .before .before .before .before .before .before .before .before .expr .ensures))) (type-is ((c .before .e .given .1)) ((c .before .before .before .before .before .expr2 .ensures))) })
     (λ c. search needs)
-    (λ c. record { by = two-second _ _ _ _ _ _ _ (type-is ((c .before .before .before .before .before .before .before .before .d .given .1)) ((c .before .before .before .before .before .before .before .before .before .before .before .before .expr .ensures))) (type-refused ((c .before .e2 .given .1)) ((c .before .before .before .before .before .expr2 .ensures))) })
+    (λ c. record { by = two-second _ _ _ _ _ _ _ (type-is ((c .before .before .before .before .before .before .before .before .d .given .1)) ((c .before .before .before .before .before .before .before .before .before .before .before .before .expr .ensures))) (type-refused ((c .before .k .given .1)) ((c .before .before .before .before .before .expr2 .ensures))) })
     (λ c. search needs)
-    (λ c. record { by = two-first _ _ _ _ _ _ (type-refused ((c .before .d2 .given .1)) ((c .before .before .before .before .before .expr .ensures))) })
+    (λ c. record { by = two-first _ _ _ _ _ _ (type-refused ((c .before .k2 .given .1)) ((c .before .before .before .before .before .expr .ensures))) })
 
 un-met : {M : Type 1} (t : ℕ) → un-lts.Closed (expr-below t, expr.Post, un-op-reads.Asked, un-op-reads.Learnt) (un-at t) un.Post M
 un-met t =
@@ -920,7 +920,7 @@ un-met t =
     (λ c. search needs)
     (λ c. un-on _ _ _ _ _ (type-is ((c .before .before .before .before .before .d .given .1)) ((c .before .before .before .before .before .before .before .before .before .expr .ensures))) ((c .before .before .un-op .ensures)))
     (λ c. search needs)
-    (λ c. typed-refused (un-off _ _ _ _ _ _ (type-refused ((c .before .d2 .given .1)) ((c .before .before .before .before .before .expr .ensures)))))
+    (λ c. typed-refused (un-off _ _ _ _ _ _ (type-refused ((c .before .k .given .1)) ((c .before .before .before .before .before .expr .ensures)))))
 
 verify-met : {M : Type 1} (t : ℕ) → verify-lts.Closed (amounts-reads.Asked, amounts-reads.Learnt, args-below t, args.Post) (verify-at t) verify.Post M
 verify-met t =
@@ -933,7 +933,7 @@ verify-met t =
     (λ c. search needs)
     (λ c. typed-type (verify-on _ _ _ _ _ _ ((c .before .before .before .before .before .before .before .before .before .amounts .ensures)) (rule-done ((c .before .e .given .1)) ((c .before .before .before .before .before .args2 .ensures)))))
     (λ c. search needs)
-    (λ c. typed-refused (verify-off _ _ _ _ _ _ _ _ ((c .before .before .before .before .before .before .before .before .before .amounts .ensures)) (rule-refused ((c .before .e2 .given .1)) ((c .before .before .before .before .before .args2 .ensures)))))
+    (λ c. typed-refused (verify-off _ _ _ _ _ _ _ _ ((c .before .before .before .before .before .before .before .before .before .amounts .ensures)) (rule-refused ((c .before .a .given .1)) ((c .before .before .before .before .before .args2 .ensures)))))
 
 verify-m-met : {M : Type 1} (t : ℕ) → verify-m-lts.Closed (amounts-reads.Asked, amounts-reads.Learnt, argument-reads.Asked, argument-reads.Learnt, args-below t, args.Post, output-reads.Asked, output-reads.Learnt) (verify-m-at t) verify-m.Post M
 verify-m-met t =
@@ -951,9 +951,9 @@ verify-m-met t =
     (λ c. (c .before .before .before .before .before .before .args2 .kept .1 .1 .0) ∙ (c .before .before .before .before .before .before .before .before .before .before .before .before .before .argument .kept .1 .1 .0) ∙ (c .before .before .before .before .before .before .before .before .before .before .before .before .before .before .before .before .before .amounts .kept .1 .1 .0))
     (λ c. typed-type (verify-m-on _ _ _ _ _ _ _ ((c .output .ensures)) ((c .before .before .before .before .before .before .before .before .before .before .before .before .before .before .before .before .before .amounts .ensures)) (rule-done ((c .before .before .before .before .before .before .before .before .before .e .given .1)) ((c .before .before .before .before .before .before .before .before .before .before .before .before .before .argument .ensures))) (rule-done ((c .before .before .g .given .1)) ((c .before .before .before .before .before .before .args2 .ensures)))))
     (λ c. (c .before .before .before .before .before .args2 .kept .1 .1 .0) ∙ (c .before .before .before .before .before .before .before .before .before .before .before .before .argument .kept .1 .1 .0) ∙ (c .before .before .before .before .before .before .before .before .before .before .before .before .before .before .before .before .amounts .kept .1 .1 .0))
-    (λ c. typed-refused (verify-m-args _ _ _ _ _ _ _ _ ((c .before .before .before .before .before .before .before .before .before .before .before .before .before .before .before .before .amounts .ensures)) (rule-done ((c .before .before .before .before .before .before .before .before .e .given .1)) ((c .before .before .before .before .before .before .before .before .before .before .before .before .argument .ensures))) (rule-refused ((c .before .g2 .given .1)) ((c .before .before .before .before .before .args2 .ensures)))))
+    (λ c. typed-refused (verify-m-args _ _ _ _ _ _ _ _ ((c .before .before .before .before .before .before .before .before .before .before .before .before .before .before .before .before .amounts .ensures)) (rule-done ((c .before .before .before .before .before .before .before .before .e .given .1)) ((c .before .before .before .before .before .before .before .before .before .before .before .before .argument .ensures))) (rule-refused ((c .before .a .given .1)) ((c .before .before .before .before .before .args2 .ensures)))))
     (λ c. (c .before .before .before .before .before .argument .kept .1 .1 .0) ∙ (c .before .before .before .before .before .before .before .before .before .amounts .kept .1 .1 .0))
-    (λ c. typed-refused (verify-m-receiver _ _ _ _ _ _ _ _ ((c .before .before .before .before .before .before .before .before .before .amounts .ensures)) (rule-refused ((c .before .e2 .given .1)) ((c .before .before .before .before .before .argument .ensures)))))
+    (λ c. typed-refused (verify-m-receiver _ _ _ _ _ _ _ _ ((c .before .before .before .before .before .before .before .before .before .amounts .ensures)) (rule-refused ((c .before .a2 .given .1)) ((c .before .before .before .before .before .argument .ensures)))))
 
 pub +args+assign+bin+block+body-of+branch+call+cond+elements+expr+field+index+index-in+inner+lambda+list+local+looped+mcall+opassign+other+rest+ret+rule+stmt+stmts+tail+two+un+verify+verify-m-spec : {M : Type 1} → statement M
 +args+assign+bin+block+body-of+branch+call+cond+elements+expr+field+index+index-in+inner+lambda+list+local+looped+mcall+opassign+other+rest+ret+rule+stmt+stmts+tail+two+un+verify+verify-m-spec = close μ-args μ-assign μ-bin μ-block μ-body-of μ-branch μ-call μ-cond μ-elements μ-expr μ-field μ-index μ-index-in μ-inner μ-lambda μ-list μ-local μ-looped μ-mcall μ-opassign μ-other μ-rest μ-ret μ-rule μ-stmt μ-stmts μ-tail μ-two μ-un μ-verify μ-verify-m args-met assign-met bin-met block-met body-of-met branch-met call-met cond-met elements-met expr-met field-met index-met index-in-met inner-met lambda-met list-met local-met looped-met mcall-met opassign-met other-met rest-met ret-met rule-met stmt-met stmts-met tail-met two-met un-met verify-met verify-m-met
