@@ -69,10 +69,10 @@ decode-other h a b c first count e =
     )
 
 -- a node is what its form and its first three fields say
-pub node-is : (rows cells : List ℕ) (n h f k : ℕ) (a b c : Field) (r : Node) → h ≡ formIn rows (nodes-at + n) → f ≡ firstIn rows (nodes-at + n) → k ≡ countIn rows (nodes-at + n)
-    → a ≡ fieldIn cells f → b ≡ fieldIn cells (f + 1) → c ≡ fieldIn cells (f + 2) → r ≡ nodeOf h a b c f k → r ≡ nodeAt rows cells n
+pub node-is : (rows cells : List ℕ) (n h f k : ℕ) (r : Node) → h ≡ formIn rows (nodes-at + n) → f ≡ firstIn rows (nodes-at + n) → k ≡ countIn rows (nodes-at + n)
+    → r ≡ nodeOf h (fieldIn cells f) (fieldIn cells (f + 1)) (fieldIn cells (f + 2)) f k → r ≡ nodeAt rows cells n
 unfolding nodeAt
-node-is rows cells n h f k a b c r hq fq kq aq bq cq e = rw (aq, bq, cq, hq, kq, fq) at e
+node-is rows cells n h f k r hq fq kq e = rw (hq, kq, fq) at e
 
 -- a type line is what its form and its first two numbers say
 pub type-row-is : (rows cells : List ℕ) (i h f k a b : ℕ) (r : TypeRow) → h ≡ formIn rows (types-at + i) → f ≡ firstIn rows (types-at + i) → k ≡ countIn rows (types-at + i) → a ≡ valueIn cells f → b ≡ valueIn cells (f + 1) → r ≡ typeRowOf h a b f k → r ≡ typeRowAt rows cells i

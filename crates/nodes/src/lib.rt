@@ -4,7 +4,7 @@ ghost use Prim.Native.Nat.{_+_};
 ghost use lib.ListN.{length};
 ghost use Rattle.theory.specs.Rules.{row};
 ghost use Rattle.type_table.specs.Memory.{inputsFrom, rowsOf};
-ghost use Rattle.refs.specs.Refs.{nodes-at, formIn};
+ghost use Rattle.refs.specs.Refs.{nodes-at, formIn, valueIn};
 ghost use Rattle.nodes.specs.Nodes.{fieldIn, countBehind, maybeType, maybeNode, binOp, unOp, resOf, nodeOf, nodeAt, fieldOf, declaredAt, letAt, blockAt, typeRowAt, fnLine, outputOf, defInputs, itemsOf, shapeInputs, inputsOf, nth, fieldType, asArr, ofFunctions, bindsFor, methodIn, methodFrom, isPartlyFailed, segmentName, segmentRes};
 use type_table::Counts;
 use type_table::DefId;
@@ -187,36 +187,94 @@ fn res_of(t: u16, v: u16) -> Res
     }
 }
 
-// A node by the form of its line, its first three fields, and where its fields stand.
-fn decode(h: u16, a: Field, b: Field, c: Field, first: u16, count: u16) -> Node
-    ensures { λ r. ⌜ r ≡ nodeOf h a b c first count ⌝ }
+// The number of the first field of a line.
+fn first_value(cells: &[u16], first: u16) -> u16
+    ensures { λ r. ⌜ r ≡ valueIn (now (cells .entry)) first ⌝ }
 {
-    let x = a.value;
-    let y = b.value;
-    let z = c.value;
-    let t = a.tag;
+    refs::value_of(cells, first as u32)
+}
+
+// That of the second.
+fn second_value(cells: &[u16], first: u16) -> u16
+    ensures { λ r. ⌜ r ≡ valueIn (now (cells .entry)) (first + 1) ⌝ }
+{
+    refs::value_of(cells, first as u32 + 1)
+}
+
+// That of the third.
+fn third_value(cells: &[u16], first: u16) -> u16
+    ensures { λ r. ⌜ r ≡ valueIn (now (cells .entry)) (first + 2) ⌝ }
+{
+    refs::value_of(cells, first as u32 + 2)
+}
+
+// A node by the form of its line and where its fields stand; of these it reads those that the form has.
+fn decode(cells: &[u16], h: u16, first: u16, count: u16) -> Node
+    ensures { λ r. ⌜ r ≡ nodeOf h (fieldIn (now (cells .entry)) first) (fieldIn (now (cells .entry)) (first + 1)) (fieldIn (now (cells .entry)) (first + 2)) first count ⌝ }
+{
     match h {
         forms::FORM_BOOL => Node::Bool,
         forms::FORM_INT => Node::Int,
         forms::FORM_FLOAT => Node::Float,
-        forms::FORM_BIN => Node::Bin(bin_op(x), NodeId(y), NodeId(z)),
-        forms::FORM_UN => Node::Un(un_op(x), NodeId(y)),
-        forms::FORM_FIELD => Node::Field(NodeId(x), y),
+        forms::FORM_BIN => Node::Bin(
+            bin_op(first_value(cells, first)),
+            NodeId(second_value(cells, first)),
+            NodeId(third_value(cells, first)),
+        ),
+        forms::FORM_UN => Node::Un(
+            un_op(first_value(cells, first)),
+            NodeId(second_value(cells, first)),
+        ),
+        forms::FORM_FIELD => Node::Field(
+            NodeId(first_value(cells, first)),
+            second_value(cells, first),
+        ),
         forms::FORM_LIST => Node::List(behind(first, count, 0)),
-        forms::FORM_INDEX => Node::Index(NodeId(x), NodeId(y)),
-        forms::FORM_ASSIGN => Node::Assign(NodeId(x), NodeId(y)),
-        forms::FORM_OPASSIGN => Node::OpAssign(NodeId(x), NodeId(y)),
-        forms::FORM_IF => Node::If(NodeId(x), NodeId(y), maybe_node(c)),
-        forms::FORM_LOOP => Node::Loop(NodeId(x)),
+        forms::FORM_INDEX => Node::Index(
+            NodeId(first_value(cells, first)),
+            NodeId(second_value(cells, first)),
+        ),
+        forms::FORM_ASSIGN => Node::Assign(
+            NodeId(first_value(cells, first)),
+            NodeId(second_value(cells, first)),
+        ),
+        forms::FORM_OPASSIGN => Node::OpAssign(
+            NodeId(first_value(cells, first)),
+            NodeId(second_value(cells, first)),
+        ),
+        forms::FORM_IF => Node::If(
+            NodeId(first_value(cells, first)),
+            NodeId(second_value(cells, first)),
+            maybe_node(read_field(cells, first as u32 + 2)),
+        ),
+        forms::FORM_LOOP => Node::Loop(NodeId(first_value(cells, first))),
         forms::FORM_BREAK => Node::Break,
-        forms::FORM_CALL => Node::Call(NodeId(x), behind(first, count, 1)),
-        forms::FORM_MCALL => Node::MethodCall(NodeId(x), y, behind(first, count, 2)),
-        forms::FORM_RETURN => Node::Return(maybe_node(a)),
-        forms::FORM_BLOCK => Node::Block(maybe_node(a), behind(first, count, 1)),
-        forms::FORM_LET => Node::Let(maybe_type(a), maybe_node(b)),
-        forms::FORM_PARAM => Node::Param(maybe_type(a)),
-        forms::FORM_LAMBDA => Node::Lambda(maybe_type(a), NodeId(y), behind(first, count, 2)),
-        forms::FORM_PATH => Node::Path(res_of(t, x), y, behind(first, count, 2)),
+        forms::FORM_CALL => Node::Call(NodeId(first_value(cells, first)), behind(first, count, 1)),
+        forms::FORM_MCALL => Node::MethodCall(
+            NodeId(first_value(cells, first)),
+            second_value(cells, first),
+            behind(first, count, 2),
+        ),
+        forms::FORM_RETURN => Node::Return(maybe_node(read_field(cells, first as u32))),
+        forms::FORM_BLOCK => Node::Block(
+            maybe_node(read_field(cells, first as u32)),
+            behind(first, count, 1),
+        ),
+        forms::FORM_LET => Node::Let(
+            maybe_type(read_field(cells, first as u32)),
+            maybe_node(read_field(cells, first as u32 + 1)),
+        ),
+        forms::FORM_PARAM => Node::Param(maybe_type(read_field(cells, first as u32))),
+        forms::FORM_LAMBDA => Node::Lambda(
+            maybe_type(read_field(cells, first as u32)),
+            NodeId(second_value(cells, first)),
+            behind(first, count, 2),
+        ),
+        forms::FORM_PATH => Node::Path(
+            res_of(refs::tag_of(cells, first as u32), first_value(cells, first)),
+            second_value(cells, first),
+            behind(first, count, 2),
+        ),
         _ => Node::Str,
     }
 }
@@ -230,10 +288,7 @@ pub fn view(rows: &[u16], cells: &[u16], n: NodeId) -> Node
     let h = refs::form_of(rows, r);
     let f = refs::first_of(rows, r);
     let k = refs::count_of(rows, r);
-    let a = read_field(cells, f as u32);
-    let b = read_field(cells, f as u32 + 1);
-    let c = read_field(cells, f as u32 + 2);
-    decode(h, a, b, c, f, k)
+    decode(cells, h, f, k)
 }
 
 // The number of the item i.
