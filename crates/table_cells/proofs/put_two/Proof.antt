@@ -1,7 +1,7 @@
 use borrow.Author.Needs.{needs}
-use Rattle.tables.proofs.CellLaws.{two-stores}
-use Rattle.tables.proofs.put_two.Statement.{statement}
-use Rattle.tables.proofs.put_two.Tie as tie
+use Rattle.table_cells.proofs.ZeroLaws.{two-stores}
+use Rattle.table_cells.proofs.put_two.Statement.{statement}
+use Rattle.table_cells.proofs.put_two.Tie as tie
 
 pub put-two-spec : {M : Type 1} → statement M
 put-two-spec =

@@ -1,8 +1,8 @@
 use lib.Seq.{set-out}
 use mathlib.Core.Path.{sym}
 use borrow.Author.Needs.{needs}
-use Rattle.tables.proofs.put.Statement.{statement}
-use Rattle.tables.proofs.put.Tie as tie
+use Rattle.table_cells.proofs.put.Statement.{statement}
+use Rattle.table_cells.proofs.put.Tie as tie
 
 pub put-spec : {M : Type 1} → statement M
 put-spec =
