@@ -1,10 +1,10 @@
 # Where the functions, types and definitions that the walks name stand, and the imports of a proof.
 import re
 # the crate of each function, and of each declared type
-FN = {'errors_used': 'answers', 'errors_end': 'answers', 'fill_errors': 'errors', 'end_memory': 'answers', 'hand_errors': 'answers', 'check_tables': 'checker', 'check': 'checker', 'report_tables': 'report', 'answer_of': 'report_text', 'report': 'report', 'tell': 'nunthila', 'tell_report': 'nunthila', 'nunthila_check': 'nunthila', 'nunthila_report': 'nunthila'}
+FN = {'errors_used': 'answers', 'errors_end': 'answers', 'fill_errors': 'errors', 'end_memory': 'answers', 'hand_errors': 'answers', 'check_tables': 'checker', 'check': 'checker', 'report_tables': 'report', 'answer_of': 'report_text', 'report': 'report', 'tell': 'told', 'tell_report': 'told', 'nunthila_check': 'nunthila', 'nunthila_report': 'nunthila'}
 TY = {'ErrorRow': 'errors', 'Answer': 'answers', 'Reported': 'report_text'}
 # the module of specs/ that has each definition which a contract cites
-SPEC = {'filledTo': 'errors.Rows', 'rowIn': 'errors.Rows', 'HandsErrors': 'answers.Parts', 'errorsUsed': 'answers.Lent', 'errorsEnd': 'answers.Lent', 'memoryEnded': 'answers.Lent', 'lent as lentTables': 'answers.Lent', 'TablesChecked': 'checker.Parts', 'TablesReported': 'report.Parts', 'checkedAnswer': 'report_text.Written', 'lent': 'answers.Lent', 'held': 'answers.Lent', 'answerNumber': 'answers.Lent', 'checkOf': 'checker.Check', 'reportNumber': 'report_text.Written', 'told': 'report.Report', 'told as reported': 'report.Report', 'reportOf': 'report.Report', 'toldNumbers': 'nunthila.Told', 'textLength': 'nunthila.Told', 'numberTold': 'nunthila.Told'}
+SPEC = {'filledTo': 'errors.Rows', 'rowIn': 'errors.Rows', 'HandsErrors': 'answers.Parts', 'errorsUsed': 'answers.Lent', 'errorsEnd': 'answers.Lent', 'memoryEnded': 'answers.Lent', 'lent as lentTables': 'answers.Lent', 'TablesChecked': 'checker.Parts', 'TablesReported': 'report.Parts', 'checkedAnswer': 'report_text.Written', 'lent': 'answers.Lent', 'held': 'answers.Lent', 'answerNumber': 'answers.Lent', 'checkOf': 'checker.Check', 'reportNumber': 'report_text.Written', 'told': 'report.Report', 'told as reported': 'report.Report', 'reportOf': 'report.Report', 'toldNumbers': 'told.Numbers', 'textLength': 'told.Numbers', 'numberTold': 'told.Numbers'}
 LAW = {'answers': 'Laws', 'checker': 'Laws', 'report': 'ReportLaws', 'nunthila': 'ToldLaws'}
 
 def mod(CR, f): return f'Rattle.{CR}.proofs.{f}' if FN[f] == CR else f'Rattle.{FN[f]}.proofs.{f}'

@@ -22,7 +22,8 @@ use Rattle.checker.specs.Parts.{TablesChecked}
 use Rattle.output.specs.Output.{zeros}
 use Rattle.report_text.specs.declared.Reported.{Reported}
 use Rattle.report_text.specs.declared.Reported.the-variants.{Written, NoRoom}
-use Rattle.report_text.specs.Lines.{errorLine, errorLines, tablesText}
+use Rattle.error_lines.specs.ErrorLines.{errorLine, errorLines}
+use Rattle.report_text.specs.Lines.{tablesText}
 use Rattle.report_text.specs.Written.{textOf, checkedAnswer, Said, said, written}
 use Rattle.report.specs.Report.{told, reportText, reportOf}
 use Rattle.report.specs.Parts.{TablesReported}

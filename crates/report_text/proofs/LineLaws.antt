@@ -16,17 +16,13 @@ use Rattle.lex.specs.Text.{text}
 use Rattle.nodes.specs.declared.Res.the-variants as res
 use Rattle.nodes.specs.Nodes.{resOf}
 use Rattle.record.specs.declared.Extra.the-variants as extra
-use Rattle.record.specs.declared.ErrorKind.{ErrorKind}
-use Rattle.record.specs.declared.ErrorKind.the-variants as error
-use Rattle.record.specs.Own.{flagged, extraOf, kindNumber, kindAt, spanOf, secondOf}
-use Rattle.errors.specs.declared.ErrorRow.{ErrorRow}
-use Rattle.errors.specs.Rows.{errorOf}
-use Rattle.tables.specs.Rows.{cellsTo}
+use Rattle.record.specs.Own.{flagged, extraOf}
 use Rattle.tables.specs.Types.{inputs-from}
 use Rattle.tables.specs.Read.{cellsAt, madeAt}
-use Rattle.output.specs.Output.{Appends, numberText, newline}
+use Rattle.output.specs.Output.{Appends, numberText}
 use Rattle.output.specs.Appending.{append-none, then, appends-as}
-use Rattle.report_text.specs.Lines.{optionText, optionAt, eachText, answerLine, typeText, typeLine, typeLines, kindText, varLine, varLines, extraText, nodeLine, nodeLines, spanText, secondText, valuesOf, errorText, errorLine, errorLines, tablesText, lambdaText, placeText, valueCount, valueCells}
+use Rattle.error_lines.specs.ErrorLines.{eachText}
+use Rattle.report_text.specs.Lines.{optionText, optionAt, typeText, extraText, lambdaText}
 
 -- ── a number that may be absent ──
 
@@ -75,25 +71,6 @@ part-inside t f k p = appends-as (ap (λ j. eachText (take j (drop f t))) (less 
     less : (f k : ℕ) → f + k - f ≡ k
     less f k = omega arith
 
--- ── rows one after another ──
-
--- no row
-pub rows-none : (f : ℕ → List ℕ) (c : ℕ) (x : List ℕ) → Appends (cellsTo f 0) c x c x
-unfolding cellsTo
-rows-none f c x = append-none c x
-
--- one row more
-pub rows-next : {c d e : ℕ} {x y z : List ℕ} (f : ℕ → List ℕ) (i : ℕ) → Appends (cellsTo f i) c x d y → Appends (f i) d y e z → Appends (cellsTo f (i + 1)) c x e z
-unfolding cellsTo
-rows-next f i p q = appends-as (ap (cellsTo f) (sym (add-one i))) (then p q)
-
--- all rows
-pub rows-all : {c d : ℕ} {x y : List ℕ} (f : ℕ → List ℕ) (n i : ℕ) → i ≤ n → n ≤ i → Appends (cellsTo f i) c x d y → Appends (cellsTo f n) c x d y
-rows-all f n i le ge p = appends-as (ap (cellsTo f) (meet le ge)) p
-  where
-    meet : i ≤ n → n ≤ i → i ≡ n
-    meet a b = omega (arith, a, b)
-
 -- ── made types ──
 
 -- what a row with a head other than those of made types is
@@ -127,44 +104,3 @@ pub extra-other : (a b : ℕ) → ((((((((Unit {0} × (a ≡ 0 → ⊥)) × (a �
 unfolding extraOf resOf
 extra-other a b n =
     rw (ne-eqb a 0 (n .0 .0 .0 .0 .0 .0 .0 .1), ne-eqb a 7 (n .0 .1), ne-eqb a 8 (n .1), ne-eqb a 1 (n .0 .0 .0 .0 .0 .0 .1), ne-eqb a 2 (n .0 .0 .0 .0 .0 .1), ne-eqb a 3 (n .0 .0 .0 .0 .1), ne-eqb a 4 (n .0 .0 .0 .1), ne-eqb a 5 (n .0 .0 .1))
-
--- ── errors ──
-
--- an error has as many values as its kind says
-values-as : (k : ErrorKind) (a b c : ℕ) → take (valueCount k) (a ∷ b ∷ c ∷ []) ≡ valuesOf k a b c
-values-as error.TypeMismatch a b c = refl
-values-as error.NoIndexOp a b c = refl
-values-as error.NoUnaryOp a b c = refl
-values-as error.NoBinaryOp a b c = refl
-values-as error.CallingNotFn a b c = refl
-values-as error.WrongArgumentTy a b c = refl
-values-as error.WrongArgumentAmnt a b c = refl
-values-as error.NoField a b c = refl
-values-as error.NotInstance a b c = refl
-values-as error.MethodNotFound a b c = refl
-values-as error.InferFail a b c = refl
-
--- no value, one, two and three of them
-pub values-none : (l : List ℕ) (n : ℕ) (c : ℕ) (x : List ℕ) → n ≡ 0 → Appends (eachText (take n l)) c x c x
-values-none l n c x e = rw e (each-none l c x)
-
-pub values-one : {c d : ℕ} {x y : List ℕ} (r : ErrorRow) (n : ℕ) → n ≡ 1 → Appends (text "," ++ numberText (r .a)) c x d y → Appends (eachText (take n (valueCells r))) c x d y
-unfolding eachText
-values-one r n e f = rw e (appends-as (sym (append-nil (text "," ++ numberText (r .a)))) f)
-
-pub values-two : {c d e : ℕ} {x y z : List ℕ} (r : ErrorRow) (n : ℕ) → n ≡ 2 → Appends (text "," ++ numberText (r .a)) c x d y → Appends (text "," ++ numberText (r .b)) d y e z → Appends (eachText (take n (valueCells r))) c x e z
-unfolding eachText
-values-two r n e f g = rw e (then f (appends-as (sym (append-nil (text "," ++ numberText (r .b)))) g))
-
-pub values-three : {c d e v : ℕ} {x y z w : List ℕ} (r : ErrorRow) (n : ℕ) → (n ≡ 0 → ⊥) → (n ≡ 1 → ⊥) → (n ≡ 2 → ⊥) → Appends (text "," ++ numberText (r .a)) c x d y → Appends (text "," ++ numberText (r .b)) d y e z → Appends (text "," ++ numberText (r .c)) e z v w → Appends (eachText (take n (valueCells r))) c x v w
-unfolding eachText
-values-three r zero p q k f g h = absurd (p refl)
-values-three r (suc zero) p q k f g h = absurd (q refl)
-values-three r (suc (suc zero)) p q k f g h = absurd (k refl)
-values-three r (suc (suc (suc n))) p q k f g h = then f (then g (appends-as (ap (λ l. text "," ++ numberText (r .c) ++ eachText l) (sym (take-nil n)) ∙ refl) (appends-as (sym (append-nil (text "," ++ numberText (r .c)))) h)))
-
--- the line of an error
-pub error-line : {c d e v w u : ℕ} {x y z a b o : List ℕ} (r : ErrorRow) (n q : ℕ) → n ≡ kindNumber (kindAt (r .kind)) → q ≡ valueCount (kindAt (r .kind)) → Appends (text "error=" ++ numberText n) c x d y → Appends (text "," ++ numberText (r .cause)) d y e z → Appends (placeText (errorOf r)) e z v a → Appends (eachText (take q (valueCells r))) v a w b → Appends newline w b u o → Appends (errorLine r) c x u o
-unfolding errorLine errorText errorOf
-error-line r n q k l f g h m o =
-    then (then (then (then (appends-as (ap (λ j. text "error=" ++ numberText j) k) f) g) h) (appends-as (ap eachText (ap (λ j. take j (valueCells r)) l ∙ values-as (kindAt (r .kind)) (r .a) (r .b) (r .c))) m)) o

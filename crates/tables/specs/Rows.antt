@@ -5,6 +5,7 @@ use mathlib.Core.Option.{Option, none, some}
 use mathlib.Core.Bool.{Bool, true, false}
 use Prim.Native.Nat.{ℕ, suc, zero, _+_, _-_}
 use lib.ListN.{length, replicate}
+pub use Rattle.table_cells.specs.Zeros.{zeros}
 use Rattle.type_table.specs.Memory.{cell}
 use Rattle.record.specs.declared.Record.{Record}
 use Rattle.record.specs.Steps.{State}
@@ -15,10 +16,6 @@ use Rattle.record.specs.Encodes.{Encodes}
 -- these cells, and zeros behind them up to n
 abbrev pub padded : ℕ → List ℕ → List ℕ
 padded n xs = xs ++ replicate (n - length xs) 0
-
--- a zero for each cell
-abbrev pub zeros : List ℕ → List ℕ
-zeros t = replicate (length t) 0
 
 -- the cells of the rows 0, 1, .., n - 1, one row after another
 unfoldable pub cellsTo : (ℕ → List ℕ) → ℕ → List ℕ

@@ -3,15 +3,14 @@
 // not fit into a slice is left out.
 ghost use mathlib.Core.Path.{_≡_};
 ghost use mathlib.Core.List.{_∷_, []};
-ghost use mathlib.Core.Logic.{_⊎_};
 ghost use Prim.Native.Nat.{_+_, _-_, _*_, _≤_};
-ghost use lib.ListN.{length, replicate, set, drop};
+ghost use lib.ListN.{length, replicate, drop};
 ghost use lib.Seq.{sets};
 ghost use Rattle.type_table.specs.Memory.{cell, inputsFrom};
 ghost use Rattle.type_table.specs.Made.{kindNumber as kindCode};
 ghost use Rattle.type_table.specs.Reads.{originMeant, boundMeant, widthMeant};
 ghost use Rattle.record.specs.Own.{extraOf, extraTag, extraValue};
-ghost use Rattle.tables.specs.Rows.{padded, zeros, cellsTo, flag, given, orZero, threeIn, Fills};
+ghost use Rattle.tables.specs.Rows.{padded, cellsTo, flag, given, orZero, threeIn, Fills};
 ghost use Rattle.tables.specs.Nodes.{nodeTable, nodeRoom, optionIn, extraIn, nodeIn};
 ghost use Rattle.tables.specs.Vars.{varTable, varRoom, varIn};
 ghost use Rattle.tables.specs.Types.{inputs-from, typeTable, typeRoom, widthNumber, fields, fieldsOf, fieldsIn, fitted, typeIn, typeFrom, inputsIn};
@@ -53,24 +52,6 @@ fn read(m: &[u16], i: usize) -> u16
     if i < m.len() { m[i] } else { 0 }
 }
 
-// A store: past the end it changes nothing.
-fn put(t: &mut [u16], i: usize, x: u16)
-    ensures { λ _. ⌜ now (t .exit) ≡ set (now (t .entry)) i x ⌝ }
-{
-    if i < t.len() {
-        t[i] = x;
-    }
-}
-
-// Two cells from j on.
-fn put_two(t: &mut [u16], j: u32, a: u16, b: u16)
-    ensures { λ _. ⌜ now (t .exit) ≡ sets (now (t .entry)) j (a ∷ b ∷ []) ⌝ }
-{
-    let i = j as usize;
-    put(t, i, a);
-    put(t, i + 1, b);
-}
-
 // Three cells as they stand at f.
 fn three_cells(m: &[u16], f: u32, t: &mut [u16], j: u32)
     ensures { λ _. ⌜ now (t .exit) ≡ sets (now (t .entry)) j (threeIn (now (m .entry)) f) ⌝ }
@@ -79,27 +60,8 @@ fn three_cells(m: &[u16], f: u32, t: &mut [u16], j: u32)
     let a = read(m, i);
     let b = read(m, i + 1);
     let d = read(m, i + 2);
-    put_two(t, j, a, b);
-    put(t, j as usize + 2, d);
-}
-
-// The smaller of two numbers.
-fn smaller(a: usize, b: usize) -> usize
-    ensures { λ r. ⌜ (r ≤ a) × (r ≤ b) × ((r ≡ a) ⊎ (r ≡ b)) ⌝ }
-{
-    if a < b { a } else { b }
-}
-
-// Zeros from the cell i to the cell e.
-fn zero_cells(t: &mut [u16], i: usize, e: usize)
-    ensures { λ _. ⌜ now (t .exit) ≡ sets (now (t .entry)) i (replicate (e - i) 0) ⌝ }
-{
-    let n = smaller(e, t.len());
-    let mut j = i;
-    while j < n {
-        t[j] = 0;
-        j += 1;
-    }
+    table_cells::put_two(t, j, a, b);
+    table_cells::put(t, j as usize + 2, d);
 }
 
 // Zeros from the cell i to the end.
@@ -107,14 +69,7 @@ pub fn zero_from(t: &mut [u16], i: usize)
     ensures { λ _. ⌜ now (t .exit) ≡ sets (now (t .entry)) i (replicate (length (now (t .entry)) - i) 0) ⌝ }
 {
     let e = t.len();
-    zero_cells(t, i, e);
-}
-
-// Zeros throughout.
-pub fn clear(t: &mut [u16])
-    ensures { λ _. ⌜ now (t .exit) ≡ zeros (now (t .entry)) ⌝ }
-{
-    zero_from(t, 0);
+    table_cells::zero_cells(t, i, e);
 }
 
 // ── nodes ──
@@ -126,10 +81,10 @@ fn option_cells(m: &[u16], f: u32, t: &mut [u16], j: u32)
     let i = f as usize;
     if read(m, i) == 1 {
         let x = read(m, i + 1);
-        put_two(t, j, 1, x);
+        table_cells::put_two(t, j, 1, x);
         return;
     }
-    put_two(t, j, 0, 0);
+    table_cells::put_two(t, j, 0, 0);
 }
 
 // EXTRA's tag; what is no tag counts as o.
@@ -163,7 +118,7 @@ fn extra_cells(m: &[u16], f: u32, t: &mut [u16], j: u32)
     let b = read(m, i + 1);
     let x = extra_tag(a, b);
     let y = extra_value(a, b);
-    put_two(t, j, x, y);
+    table_cells::put_two(t, j, x, y);
 }
 
 // The row of the node i.
@@ -264,9 +219,9 @@ fn put_var(m: &[u16], c: Counts, v: u16, t: &mut [u16])
     let o = origin_flag(origin);
     let n = origin_cell(origin);
     let f = flag_cell(marked);
-    put_two(t, at, k, b);
-    put_two(t, at + 2, x, o);
-    put_two(t, at + 4, n, f);
+    table_cells::put_two(t, at, k, b);
+    table_cells::put_two(t, at + 2, x, o);
+    table_cells::put_two(t, at + 4, n, f);
 }
 
 // The variables: KIND, whether it is bound, BOUND, whether it has an origin, ORIGIN, mark.
@@ -419,9 +374,9 @@ fn put_type(r: Fields, i: u16, k: u32, t: &mut [u16])
     let o = r.output;
     let n = r.count;
     let f = fitted_cell(k);
-    put_two(t, at, h, a);
-    put_two(t, at + 2, o, f);
-    put(t, at as usize + 4, n);
+    table_cells::put_two(t, at, h, a);
+    table_cells::put_two(t, at + 2, o, f);
+    table_cells::put(t, at as usize + 4, n);
 }
 
 // Writes the types from the number first on, one row after another, and zeros behind them.
@@ -438,7 +393,7 @@ fn put_types(m: &[u16], c: Counts, first: u16, t: &mut [u16])
         k += a as u32;
         i += 1;
     }
-    zero_cells(t, n as usize * 5, INPUTS_FROM as usize);
+    table_cells::zero_cells(t, n as usize * 5, INPUTS_FROM as usize);
 }
 
 // Writes the k inputs that stand in the memory from f on.
@@ -449,7 +404,7 @@ fn put_inputs(m: &[u16], f: u16, k: u16, t: &mut [u16], j: u32)
     let mut i: u16 = 0;
     while i < k {
         let x = type_table::input(m, f as u32 + i as u32);
-        put(t, at + i as usize, x.0);
+        table_cells::put(t, at + i as usize, x.0);
         i += 1;
     }
 }

@@ -21,6 +21,7 @@ use Rattle.type_table.specs.declared.Bound.the-variants.{To, Open}
 use Rattle.type_table.specs.declared.Width.the-variants.{W64}
 use Rattle.type_table.specs.declared.Row.{Row}
 use Rattle.type_table.specs.declared.Row.the-variants.{Nil}
+use Rattle.memory_cells.specs.Cells.{bindingWritten}
 use Rattle.type_table.specs.Memory.{cell, rows-at, headAt, rowCell, numberAt, outputAt, firstAt, countAt, varCell, bindingAt, counts}
 use Rattle.type_table.specs.View.{type, variable, node, kindCode, originCode, originIn, boundIn, widthCode, viewOf, viewIn, onwardIn, endFrom, endIn}
 use Rattle.type_table.specs.Made.{marking, binding, kindNumber, originNumber, rowWritten, varWritten, Making, making, pushed, drawIn, poolCell, appendIn, enterIn, internIn, internOf, partsIn, pushIn, fixed-heads, fixed-widths, fixedRows, pool-cells, cleared, startIn}
@@ -117,9 +118,9 @@ module _ (m : List ℕ) (n v : ℕ) where
   unfolding marking
   marking-out h = rw (le-ltb v n h)
 
-  pub bind-in : (z : ℕ) (u w : List ℕ) → v < n → u ≡ set m (v * 5 + 2) 1 → w ≡ set u (v * 5 + 3) z → w ≡ binding m n v z
-  unfolding binding
-  bind-in z u w h p q = rw (lt-ltb v n h, ← p) q
+  pub bind-in : (z : ℕ) (w : List ℕ) → v < n → w ≡ bindingWritten m v z → w ≡ binding m n v z
+  unfolding binding bindingWritten
+  bind-in z w h p = rw (lt-ltb v n h) p
 
   pub bind-out : (z : ℕ) → n ≤ v → m ≡ binding m n v z
   unfolding binding
@@ -147,14 +148,6 @@ origin-in o n e h = rw (e, lt-ltb (n .0) 65535 h)
 
 pub origin-out : (o : Origin) (n : NodeId) → o ≡ Node n → 65535 ≤ n .0 → 0 ≡ originNumber o
 origin-out o n e h = rw (e, le-ltb (n .0) 65535 h)
-
-pub row-written : (m m₁ m₂ m₃ m₄ m₅ : List ℕ) (x h a o f k : ℕ) → let i = rows-at + x * 5 in m₁ ≡ set m i h → m₂ ≡ set m₁ (i + 1) a → m₃ ≡ set m₂ (i + 2) o → m₄ ≡ set m₃ (i + 3) f → m₅ ≡ set m₄ (i + 4) k → m₅ ≡ rowWritten m x h a o f k
-unfolding rowWritten
-row-written m m₁ m₂ m₃ m₄ m₅ x h a o f k p q r s t = rw (← p, ← q, ← r, ← s) t
-
-pub var-written : (m m₁ m₂ m₃ m₄ m₅ : List ℕ) (v k o : ℕ) → let i = v * 5 in m₁ ≡ set m i k → m₂ ≡ set m₁ (i + 1) o → m₃ ≡ set m₂ (i + 2) 0 → m₄ ≡ set m₃ (i + 3) 0 → m₅ ≡ set m₄ (i + 4) 0 → m₅ ≡ varWritten m v k o
-unfolding varWritten
-var-written m m₁ m₂ m₃ m₄ m₅ v k o p q r s t = rw (← p, ← q, ← r, ← s) t
 
 pub pool-array : (h a : ℕ) → h ≡ 8 → a < 4622 → 37446 + a ≡ poolCell h a
 unfolding poolCell

@@ -11,7 +11,8 @@ use Rattle.type_table.specs.declared.Kind.{Kind}
 use Rattle.type_table.specs.declared.Kind.the-variants.{Regular, Integer, Float}
 use Rattle.type_table.specs.declared.Origin.{Origin}
 use Rattle.type_table.specs.declared.Origin.the-variants.{Node, Literal}
-use Rattle.type_table.specs.Memory.{pick, cell, counts, most-types, most-vars, most-inputs, rows-at, inputs-at, arrays-at, refs-at, defs-at, instances-at, cells}
+unfoldable pub use Rattle.memory_cells.specs.Cells.{rowWritten, varWritten}
+use Rattle.type_table.specs.Memory.{pick, cell, counts, most-types, most-vars, most-inputs, inputs-at, arrays-at, refs-at, defs-at, instances-at, cells}
 
 -- a mark is set
 unfoldable pub marking : List ℕ → ℕ → ℕ → List ℕ
@@ -31,18 +32,6 @@ kindNumber Float = 2
 abbrev pub originNumber : Origin → ℕ
 originNumber Literal = 0
 originNumber (Node n) = pick (ltb (n .0) 65535) (n .0 + 1) 0
-
--- the row x with its five cells
-unfoldable pub rowWritten : List ℕ → ℕ → ℕ → ℕ → ℕ → ℕ → ℕ → List ℕ
-rowWritten m x h a o f k =
-    let i = rows-at + x * 5 in
-    set (set (set (set (set m i h) (i + 1) a) (i + 2) o) (i + 3) f) (i + 4) k
-
--- the variable v, open and unmarked
-unfoldable pub varWritten : List ℕ → ℕ → ℕ → ℕ → List ℕ
-varWritten m v k o =
-    let i = v * 5 in
-    set (set (set (set (set m i k) (i + 1) o) (i + 2) 0) (i + 3) 0) (i + 4) 0
 
 -- what an operation that makes a type answers, and the memory
 pub record Making : Type 0 where

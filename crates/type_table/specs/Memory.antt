@@ -7,6 +7,7 @@ use lib.ListN.{getD, length}
 use lib.Dec.{eqb, ltb, leb}
 use Rattle.theory.specs.Rules.{Width, w8, w16, w32, w64, bool, nil, float, double, uint, int, inst, Shape, base, var, arr, ref, fn, fun, lam, err, div, Kind, regular, integer, floating, Mem}
 use Rattle.type_table.specs.declared.Counts.{Counts}
+pub use Rattle.memory_cells.specs.Cells.{cell, rows-at}
 
 -- the first of two values, or the second
 abbrev pub pick {ℓ} : {A : Type ℓ} → Bool → A → A → A
@@ -31,10 +32,6 @@ most-vars = 1024
 -- the most inputs of functions and lambdas: 512 times 16 declared, and each node at most once
 abbrev pub most-inputs : ℕ
 most-inputs = 9216
-
--- the rows lie behind the variables, both of five cells each
-abbrev pub rows-at : ℕ
-rows-at = 5120
 
 -- the inputs lie behind the rows
 abbrev pub inputs-at : ℕ
@@ -61,10 +58,6 @@ abbrev pub cells : ℕ
 cells = 47010
 
 -- ── rows: head, number, output, first input, count ──
-
--- a cell, 0 past the end
-abbrev pub cell : List ℕ → ℕ → ℕ
-cell m i = getD m i 0
 
 -- a head of `TyKind`; what is none reads as Nil
 abbrev pub headOf : ℕ → ℕ

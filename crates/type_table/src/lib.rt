@@ -3,12 +3,13 @@
 
 ghost use mathlib.Core.Path.{_≡_};
 ghost use Prim.Native.Nat.{ℕ, _+_, _*_, _<_, _≤_};
-ghost use lib.ListN.{set, length};
+ghost use lib.ListN.{length};
 ghost use Rattle.theory.specs.Program.{clip as clip·T};
 ghost use Rattle.theory.specs.Rules.{array-head, ref-head, fn-def-head, instance-head, lambda-head, param-head};
 ghost use Rattle.type_table.specs.Memory.{cell, cells, inputs-at, headAt, rowCell, numberAt, outputAt, firstAt, countAt, varCell, markAt};
 ghost use Rattle.type_table.specs.View.{kindCode, kindIn, originIn, boundIn, widthCode, viewOf, viewIn, onwardIn, endIn};
-ghost use Rattle.type_table.specs.Made.{marking, binding, kindNumber, originNumber, rowWritten, varWritten, made, pushed, drawIn, poolCell, appendIn, enterIn, internIn, internOf, partsIn, pushIn, pool-cells, cleared, startIn};
+ghost use Rattle.type_table.specs.Made.{marking, binding, kindNumber, originNumber, made, pushed, drawIn, poolCell, appendIn, enterIn, internIn, internOf, partsIn, pushIn, pool-cells, cleared, startIn};
+use memory_cells::ROWS_AT;
 
 // The most type rows: 14 fixed, 512 declared, 4,096 made.
 pub const MOST_TYPES: u16 = 4622;
@@ -55,9 +56,7 @@ pub const HEAD_REF: u16 = 14;
 // How many there are.
 pub const HEADS: u16 = 15;
 
-// Where the regions begin: variables and rows of five cells, inputs of one, and the pool's four indices.
-const ROWS_AT: usize = 5120;
-
+// Where the regions behind the variables and the rows begin: inputs of one cell, and the pool's four indices.
 const INPUTS_AT: usize = 28230;
 
 const ARRAYS_AT: usize = 37446;
@@ -143,24 +142,6 @@ pub enum Bound {
     Open,
 }
 
-// ── cells ──
-
-// A cell: 0 past the end.
-fn read(m: &[u16], i: usize) -> u16
-    ensures { λ r. ⌜ r ≡ cell (now (m .entry)) i ⌝ }
-{
-    if i < m.len() { m[i] } else { 0 }
-}
-
-// A store: past the end it changes nothing.
-fn write(m: &mut [u16], i: usize, v: u16)
-    ensures { λ _. ⌜ now (m .exit) ≡ set (now (m .entry)) i v ⌝ }
-{
-    if i < m.len() {
-        m[i] = v;
-    }
-}
-
 // ── rows ──
 
 // The place of a row's head in `TyKind`; that of Nil for what is no row or no head.
@@ -172,7 +153,7 @@ pub fn head(m: &[u16], c: Counts, x: TypeId) -> u16
     if n <= i {
         return HEAD_NIL;
     }
-    let h = read(m, ROWS_AT + i as usize * 5);
+    let h = memory_cells::read(m, ROWS_AT + i as usize * 5);
     if h < HEADS { h } else { HEAD_NIL }
 }
 
@@ -185,7 +166,7 @@ fn row_cell(m: &[u16], c: Counts, x: TypeId, k: u16) -> u16
     if n <= i {
         return 0;
     }
-    read(m, ROWS_AT + i as usize * 5 + k as usize)
+    memory_cells::row_cell(m, i, k)
 }
 
 // The number that a row has first: a width, instance, definition, element, variable, SPAN or node.
@@ -215,7 +196,7 @@ pub fn inputs(m: &[u16], c: Counts, x: TypeId) -> InputRange
 pub fn input(m: &[u16], at: u32) -> TypeId
     ensures { λ r. ⌜ r .0 ≡ cell (now (m .entry)) (inputs-at + at) ⌝ }
 {
-    TypeId(read(m, INPUTS_AT + at as usize))
+    TypeId(memory_cells::read(m, INPUTS_AT + at as usize))
 }
 
 fn width_of(a: u16) -> Width
@@ -283,7 +264,7 @@ fn var_cell(m: &[u16], c: Counts, v: VarId, k: u16) -> u16
     if n <= i {
         return 0;
     }
-    read(m, i as usize * 5 + k as usize)
+    memory_cells::var_cell(m, i, k)
 }
 
 // A variable's kind; Regular for what is no variable.
@@ -332,7 +313,7 @@ pub fn mark(m: &mut [u16], c: Counts, v: VarId)
     let i = v.0;
     let n = c.vars;
     if i < n {
-        write(m, i as usize * 5 + 4, 1);
+        memory_cells::write(m, i as usize * 5 + 4, 1);
     }
 }
 
@@ -344,8 +325,7 @@ pub fn bind(m: &mut [u16], c: Counts, v: VarId, z: TypeId)
     let n = c.vars;
     let b = z.0;
     if i < n {
-        write(m, i as usize * 5 + 2, 1);
-        write(m, i as usize * 5 + 3, b);
+        memory_cells::write_binding(m, i, b);
     }
 }
 
@@ -380,32 +360,6 @@ fn origin_number(o: Origin) -> u16
     }
 }
 
-// Writes the row x.
-fn write_row(m: &mut [u16], x: u16, h: u16, a: u16, o: u16, r: InputRange)
-    ensures { λ _. ⌜ now (m .exit) ≡ rowWritten (now (m .entry)) x h a o (r .first) (r .count) ⌝ }
-{
-    let f = r.first;
-    let k = r.count;
-    let at = ROWS_AT + x as usize * 5;
-    write(m, at, h);
-    write(m, at + 1, a);
-    write(m, at + 2, o);
-    write(m, at + 3, f);
-    write(m, at + 4, k);
-}
-
-// Writes the variable v, open and unmarked.
-fn write_var(m: &mut [u16], v: u16, k: u16, o: u16)
-    ensures { λ _. ⌜ now (m .exit) ≡ varWritten (now (m .entry)) v k o ⌝ }
-{
-    let at = v as usize * 5;
-    write(m, at, k);
-    write(m, at + 1, o);
-    write(m, at + 2, 0);
-    write(m, at + 3, 0);
-    write(m, at + 4, 0);
-}
-
 // A new variable: the number of its row. Without room nothing changes, and the answer is row 0.
 pub fn draw(m: &mut [u16], c: Counts, k: Kind, o: Origin) -> Made
     ensures { λ r. ⌜ made r (now (m .exit)) ≡ drawIn (now (m .entry)) c k o ⌝ }
@@ -427,8 +381,8 @@ pub fn draw(m: &mut [u16], c: Counts, k: Kind, o: Origin) -> Made
     }
     let a = kind_number(k);
     let b = origin_number(o);
-    write_var(m, v, a, b);
-    write_row(m, t, HEAD_INFER_TY, v, 0, InputRange { first: 0, count: 0 });
+    memory_cells::write_var(m, v, a, b);
+    memory_cells::write_row(m, t, HEAD_INFER_TY, v, 0, 0, 0);
     Made {
         counts: Counts {
             types: t + 1,
@@ -485,7 +439,9 @@ fn append(m: &mut [u16], c: Counts, h: u16, a: u16, o: u16, r: InputRange) -> Ma
             ty: TypeId(0),
         };
     }
-    write_row(m, t, h, a, o, r);
+    let f = r.first;
+    let k = r.count;
+    memory_cells::write_row(m, t, h, a, o, f, k);
     Made {
         counts: Counts {
             types: t + 1,
@@ -507,7 +463,7 @@ fn enter(m: &mut [u16], c: Counts, p: usize, h: u16, a: u16) -> Made
             ty: TypeId(0),
         };
     }
-    write(m, p, t + 1);
+    memory_cells::write(m, p, t + 1);
     append(m, c, h, a, 0, InputRange { first: 0, count: 0 })
 }
 
@@ -522,7 +478,7 @@ fn intern(m: &mut [u16], c: Counts, h: u16, a: u16) -> Made
             ty: TypeId(0),
         };
     }
-    let x = read(m, p);
+    let x = memory_cells::read(m, p);
     if x == 0 {
         return enter(m, c, p, h, a);
     }
@@ -598,7 +554,7 @@ pub fn push_input(m: &mut [u16], c: Counts, x: TypeId) -> Counts
     }
     let y = clip(c, x);
     let b = y.0;
-    write(m, INPUTS_AT + i as usize, b);
+    memory_cells::write(m, INPUTS_AT + i as usize, b);
     Counts {
         types: t,
         vars: v,
@@ -695,7 +651,7 @@ pub fn start(m: &mut [u16]) -> Counts
         let i = x as usize;
         let h = FIXED_HEADS[i];
         let a = FIXED_WIDTHS[i];
-        write_row(m, x, h, a, 0, InputRange { first: 0, count: 0 });
+        memory_cells::write_row(m, x, h, a, 0, 0, 0);
         x += 1;
     }
     Counts {

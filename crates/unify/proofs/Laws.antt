@@ -21,7 +21,8 @@ use Rattle.unify.specs.declared.Reply.the-variants.{Mismatch, Success}
 use Rattle.unify.specs.Leaf.{kindK, outK, Classed, Caused, Signed, SameVar, Compared, code}
 use Rattle.type_table.specs.Tables.{kind-at}
 use Rattle.type_table.specs.Heads.{var-row}
-use Rattle.unify.specs.Bridge.{no-var-row, signed-row, fits-row, alike-row}
+use Rattle.search.specs.Bridge.{no-var-row}
+use Rattle.unify.specs.Bridge.{signed-row, fits-row, alike-row}
 
 -- ── kinds ──
 

@@ -25,15 +25,15 @@ use Rattle.unify.specs.declared.Reply.{Reply}
 use Rattle.unify.specs.declared.Reply.the-variants.{Success, Mismatch, Refused12, Refused13, Dry}
 use Rattle.unify.specs.declared.Next.{Next}
 use Rattle.unify.specs.declared.Next.the-variants.{Done, On, Into}
-use Rattle.unify.specs.declared.Found.{Found}
-use Rattle.unify.specs.declared.Found.the-variants.{Free, Ring, Inside, Lost}
+use Rattle.search.specs.declared.Found.{Found}
+use Rattle.search.specs.declared.Found.the-variants.{Free, Ring, Inside, Lost}
 use Rattle.unify.specs.Leaf.{kindK, stepK, Classed, Caused, Signed, SameVar, Compared}
-use Rattle.unify.specs.Search.{seekIn, Sought, parts}
+use Rattle.search.specs.Search.{seekIn, Sought, parts}
 use Rattle.unify.specs.Step.{Rec, resume, Parted, Enterable, Settled, Chased, Heeded, unsignedIn, passedIn, Met, Varied, downTo, Stepped}
 use Rattle.type_table.specs.Tables.{mark-at}
 use Rattle.theory.specs.Basics.{and-both, eqb-true}
 use Rattle.type_table.specs.Heads.{head-row, var-row}
-use Rattle.unify.specs.Bridge.{bound-open, bound-some, no-var-row, kids-row}
+use Rattle.search.specs.Bridge.{bound-open, bound-some, no-var-row, kids-row}
 use Rattle.unify.specs.Frames.{frame-same, frame-trans, held-on, rows-same, kinds-same, marking-frame, marking-mem, binding-frame, binding-mem}
 use Rattle.unify.proofs.Laws.{kind-in}
 use Rattle.unify.specs.Promise.{Frame, kindsIn, memIn, rowIn, rowsIn}

@@ -9,22 +9,12 @@ use native.Mathlib.Omega.{arith}
 use native.Mathlib.Decide.{ℕ-discrete, decLt}
 use lib.Dec.{eqb, ltb}
 use borrow.Author.Tests.{eq-eqb, ne-eqb, lt-ltb, le-ltb}
-use Rattle.theory.specs.Rules.{Width, w8, w16, w32, w64, Base, bool, nil, float, double, uint, int, inst, Shape, base, head, kids, asVar, row, kind, fits, baseFits, kindFits, isRegular, signed, alike, isYes, base-discrete, width-discrete, regular, integer, floating}
+use Rattle.theory.specs.Rules.{Width, w8, w16, w32, w64, Base, bool, nil, float, double, uint, int, inst, Shape, base, head, row, kind, fits, baseFits, kindFits, isRegular, signed, alike, isYes, base-discrete, width-discrete, regular, integer, floating}
 use Rattle.theory.specs.Rules.{Kind as KindT}
-use Rattle.type_table.specs.declared.Counts.{Counts}
-use Rattle.type_table.specs.declared.TypeId.{TypeId}
 use Rattle.type_table.specs.Memory.{pick, headAt, numberAt, outputAt, firstAt, countAt, inputsFrom, widthOf, shapeOf, shapeAt, rowsOf}
 use Rattle.type_table.specs.Tables.{row-at}
 use Rattle.type_table.specs.Heads.{head-low, shape-cases, row-by}
 use Rattle.unify.specs.Leaf.{cap, code}
-use Rattle.unify.specs.Search.{parts}
-use Rattle.theory.specs.Rules.{bound}
-use Rattle.type_table.specs.declared.VarId.{VarId}
-use Rattle.type_table.specs.declared.Bound.{Bound}
-use Rattle.type_table.specs.declared.Bound.the-variants.{To, Open}
-use Rattle.type_table.specs.View.{boundIn}
-use Rattle.type_table.specs.Memory.{bindsOf}
-use Rattle.type_table.specs.Reads.{boundMeant, bound-read}
 
 -- the number of a width's code
 pub code-width : (a : ℕ) → widthOf a ≡ widthOf (cap a)
@@ -41,17 +31,8 @@ code-width a = by (decLt a 3)
         big (suc (suc (suc n))) h = refl
 
 module _ (h a o : ℕ) (i : List ℕ) (l : h < 15) where
-  pub var-none : h ≢ 12 → asVar (shapeOf h a o i) ≡ none
-  var-none n = shape-cases h a o i l (λ s. asVar s ≡ none) (λ e. refl) (λ e. refl) (λ e. refl) (λ e. refl) (λ e. refl) (λ e. refl) (λ e. refl) (λ e. refl) (λ e. refl) (λ e. refl) (λ e. refl) (λ e. refl) (λ e. absurd (n e)) (λ e. refl) (λ e. refl)
-
   pub signed-is : signed (shapeOf h a o i) ≡ (eqb h 2 || eqb h 12)
   signed-is = shape-cases h a o i l (λ s. signed s ≡ (eqb h 2 || eqb h 12)) (λ e. rw e) (λ e. rw e) (λ e. rw e) (λ e. rw e) (λ e. rw e) (λ e. rw e) (λ e. rw e) (λ e. rw e) (λ e. rw e) (λ e. rw e) (λ e. rw e) (λ e. rw e) (λ e. rw e) (λ e. rw e) (λ e. rw e)
-
-  abbrev partsBy : List ℕ
-  partsBy = pick (eqb h 6 || eqb h 13) (o ∷ i) (pick (eqb h 8 || eqb h 14) (a ∷ []) [])
-
-  pub kids-by : kids (shapeOf h a o i) ≡ partsBy
-  kids-by = shape-cases h a o i l (λ s. kids s ≡ partsBy) (λ e. rw e) (λ e. rw e) (λ e. rw e) (λ e. rw e) (λ e. rw e) (λ e. rw e) (λ e. rw e) (λ e. rw e) (λ e. rw e) (λ e. rw e) (λ e. rw e) (λ e. rw e) (λ e. rw e) (λ e. rw e) (λ e. rw e)
 
   -- the kind test against a row that is no variable, by its head
   abbrev classBy : KindT
@@ -264,9 +245,6 @@ alike-is h a o i k b p j l n = shape-cases h a o i l (λ s. alike s t ≡ said (
 -- ── the rows of a memory ──
 
 module _ (m : List ℕ) (n x : ℕ) where
-  pub no-var-row : headAt m n x ≢ 12 → asVar (row (rowsOf m n) x) ≡ none
-  no-var-row d = ap asVar (row-by m n x) ∙ var-none (headAt m n x) (numberAt m n x) (outputAt m n x) (inputsFrom m (firstAt m n x) (countAt m n x)) (head-low m n x) d
-
   pub signed-row : signed (row (rowsOf m n) x) ≡ (eqb (headAt m n x) 2 || eqb (headAt m n x) 12)
   signed-row = ap signed (row-by m n x) ∙ signed-is (headAt m n x) (numberAt m n x) (outputAt m n x) (inputsFrom m (firstAt m n x) (countAt m n x)) (head-low m n x)
 
@@ -282,20 +260,3 @@ module _ (m : List ℕ) (n x : ℕ) where
     where
       shape-y : shapeAt m n y ≡ shapeOf (headAt m n y) (numberAt m n y) (outputAt m n y) (inputsFrom m (firstAt m n y) (countAt m n y))
       shape-y = refl
-
-pub kids-row : (m : List ℕ) (c : Counts) (x : TypeId) → kids (row (rowsOf m (c .types)) (x .0)) ≡ parts m c x
-unfolding parts
-kids-row m c x =
-    ap kids (row-by m (c .types) (x .0))
-    ∙ kids-by (headAt m (c .types) (x .0)) (numberAt m (c .types) (x .0)) (outputAt m (c .types) (x .0)) (inputsFrom m (firstAt m (c .types) (x .0)) (countAt m (c .types) (x .0))) (head-low m (c .types) (x .0))
-
--- ── the bindings of a memory ──
-
-module _ (m : List ℕ) (c : Counts) (v : VarId) (b : Bound) (p : b ≡ boundIn m c v) where
-  -- open as the code reads it: no binding in the table
-  pub bound-open : b ≡ Open → bound (bindsOf m (c .vars)) (v .0) ≡ none
-  bound-open e = sym (bound-read m c v) ∙ ap boundMeant (sym p ∙ e)
-
-  -- bound as the code reads it: that binding in the table
-  pub bound-some : (x : TypeId) → b ≡ To x → bound (bindsOf m (c .vars)) (v .0) ≡ some (x .0)
-  bound-some x e = sym (bound-read m c v) ∙ ap boundMeant (sym p ∙ e)

@@ -26,7 +26,7 @@ use Rattle.type_table.specs.Sound.{Sound, stateOf}
 use Rattle.type_table.specs.Promises.{follow-promise}
 use Rattle.unify.specs.declared.Answer.{Answer}
 use Rattle.unify.specs.declared.Answer.the-variants.{Success}
-use Rattle.unify.specs.Search.{bindsIn}
+use Rattle.search.specs.Search.{bindsIn}
 use Rattle.unify.specs.Keeps as keeps
 use Rattle.unify.specs.Meaning.{rowOf, PlainSides, Fails}
 use Rattle.unify.specs.Meaning as meaning

@@ -17,9 +17,9 @@ use Rattle.type_table.specs.Memory.{headAt, numberAt}
 use Rattle.type_table.specs.View.{type, variable, onwardIn, endBy, endFrom, endIn}
 use Rattle.type_table.specs.Tables.{length-rows}
 use Rattle.type_table.specs.Sound.{Sound}
-use Rattle.unify.specs.Search.{bindsIn}
+use Rattle.search.specs.Search.{bindsIn}
 use Rattle.type_table.specs.Heads.{var-row}
-use Rattle.unify.specs.Bridge.{bound-some}
+use Rattle.search.specs.Bridge.{bound-some}
 use Rattle.unify.specs.Promise.{rowsIn}
 
 -- a row that is bound is that of a variable, and its binding stands in the tables

@@ -1,6 +1,5 @@
 pub mod Promise
 pub mod Leaf
-pub mod Search
 pub mod Step
 pub mod Unify
 pub mod Bridge

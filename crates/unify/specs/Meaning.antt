@@ -16,7 +16,7 @@ use Rattle.type_table.specs.Sound.{Sound}
 use Rattle.unify.specs.declared.Answer.{Answer}
 use Rattle.unify.specs.declared.Answer.the-variants.{Success, Mismatch, Refused12, Refused13}
 use Rattle.unify.specs.declared.Cause.the-variants.{Other, KindOrder}
-use Rattle.unify.specs.Search.{bindsIn}
+use Rattle.search.specs.Search.{bindsIn}
 use Rattle.unify.specs.Keeps.{held-sound, never-dry}
 use Rattle.unify.specs.Promise.{Solved, SolvedBy, answerIs, kindsIn, memIn, rowsIn, solveIn}
 

@@ -7,20 +7,17 @@ use mathlib.Core.Bool.{false}
 use Prim.Native.Nat.{ℕ, _+_, _*_, _<_}
 use lib.ListN.{length}
 use lib.Dec.{ltb}
-use Rattle.theory.specs.Rules.{Shape, Kind, Mem, Out, success, mismatch, kindOrder, refused12, refused13, dry, numbersOf, Res, row}
+use Rattle.theory.specs.Rules.{Kind, Mem, Out, success, mismatch, kindOrder, refused12, refused13, dry, numbersOf, Res}
 use Rattle.theory.specs.Program.{clip, solve}
 use Rattle.type_table.specs.declared.Counts.{Counts}
 use Rattle.type_table.specs.declared.TypeId.{TypeId}
-use Rattle.type_table.specs.Memory.{pick, cells, most-types, most-vars, counts, cell, rowsOf, kindsOf, memOf, bindingAt, markAt}
+use Rattle.type_table.specs.Memory.{pick, cells, most-types, most-vars, counts, cell, kindsOf, memOf, bindingAt, markAt}
+pub use Rattle.search.specs.Search.{rowsIn, rowIn}
 use Rattle.unify.specs.declared.Answer.{Answer}
 use Rattle.unify.specs.declared.Answer.the-variants.{Success, Mismatch, Refused12, Refused13}
 use Rattle.unify.specs.declared.Cause.the-variants.{Other, KindOrder}
 
 -- ── the tables in a memory ──
-
--- its type rows
-abbrev pub rowsIn : List ℕ → Counts → List Shape
-rowsIn m c = rowsOf m (c .types)
 
 -- the kinds of its variables
 abbrev pub kindsIn : List ℕ → Counts → List Kind
@@ -29,10 +26,6 @@ kindsIn m c = kindsOf m (c .vars)
 -- their bindings and marks
 abbrev pub memIn : List ℕ → Counts → Mem
 memIn m c = memOf m (c .vars)
-
--- the row x
-abbrev pub rowIn : List ℕ → Counts → TypeId → Shape
-rowIn m c x = row (rowsIn m c) (x .0)
 
 -- ── what stays ──
 

@@ -16,7 +16,7 @@ use Rattle.unify.specs.declared.Reply.{Reply}
 use Rattle.unify.specs.declared.Next.{Next}
 use Rattle.unify.specs.declared.Next.the-variants.{Done, On, Into}
 use Rattle.unify.specs.Leaf.{outK}
-use Rattle.unify.specs.Search.{seekIn}
+use Rattle.search.specs.Search.{seekIn}
 use Rattle.unify.specs.Promise.{Frame, kindsIn, memIn, rowIn, rowsIn}
 
 -- how two rows are unified further on

@@ -38,7 +38,7 @@ use denote.Exit.{yes}
 use denote.Signature.{plain, shrSliceOf}
 use Rattle.answers.specs.Lent.{held, answerNumber, lent}
 use Rattle.checker.specs.Check.{checkOf}
-use Rattle.nunthila.specs.Told.{toldNumbers, numberTold}
+use Rattle.told.specs.Numbers.{toldNumbers, numberTold}
 use Rattle.errors.specs.declared.ErrorRow.{ErrorRow}
 use Rattle.answers.specs.declared.Answer.{Answer}
 use Rattle.errors.proofs.ErrorRow as E
@@ -53,10 +53,10 @@ use Rattle.checker.proofs.check as callee
 use Rattle.checker.proofs.check.Symbol as callee-def
 use Rattle.checker.proofs.check.Symbol.{name as #checker·check}
 use Rattle.checker.proofs.check.Met as callee-thm
-use Rattle.nunthila.proofs.tell as tell
-use Rattle.nunthila.proofs.tell.Symbol as tell-def
-use Rattle.nunthila.proofs.tell.Symbol.{name as #nunthila·tell}
-use Rattle.nunthila.proofs.tell.Met as tell-thm
+use Rattle.told.proofs.tell as tell
+use Rattle.told.proofs.tell.Symbol as tell-def
+use Rattle.told.proofs.tell.Symbol.{name as #told·tell}
+use Rattle.told.proofs.tell.Met as tell-thm
 use Rattle.nunthila.proofs.nunthila_check.Key.{name as #nunthila·nunthila-check}
 use Rattle.nunthila.proofs.nunthila_check as exported
 use Rattle.nunthila.proofs.nunthila_check.Statement as stated
@@ -180,7 +180,7 @@ module _ {M : Type 1} (𝓤 : URA M) (H : Heap 𝓤) (A : Atoms 𝓤) (W : Given
       (‵ (flft κ0 q0) ∷ ‵ (flft κ1 q1) ∷ ‵ (flft κ2 q2) ∷ ‵ (flft κ3 q3) ∷ ‵ (flft κ4 q4) ∷ ‵ (flft κ5 q5) ∷ ‵ (flft κ6 q6) ∷ ‵ (flft κ7 q7) ∷ ‵ (flft κ8 q8) ∷ ‵ (flft κ9 q9) ∷ ‵ ftrue ∷ [])
       (‵ ftrue ∷ ‵ (finally u16 (rows .name) (zs .1 .0)) ∷ ‵ (finally u16 (cells .name) (zs .1 .1 .0)) ∷ ‵ (finally u16 (nodes .name) (zs .1 .1 .1 .0)) ∷ ‵ (finally u16 (vars .name) (zs .1 .1 .1 .1 .0)) ∷ ‵ (finally u16 (types .name) (zs .1 .1 .1 .1 .1 .0)) ∷ ‵ (finally E.the-row (errors .name) (zs .1 .1 .1 .1 .1 .1 .0)) ∷ ‵ (finally u16 (log .name) (zs .1 .1 .1 .1 .1 .1 .1 .0)) ∷ ‵ (finally u16 (memory .name) (zs .1 .1 .1 .1 .1 .1 .1 .1 .0)) ∷ ‵ (finally usize (told .name) vs) ∷ ‵ ftrue ∷ []) (‵ (usize .own k (u ∷ [])) ∷ []) (0 ∷ 0 ∷ 0 ∷ 0 ∷ 0 ∷ 0 ∷ 0 ∷ 0 ∷ 0 ∷ 8 ∷ 10 ∷ 10 ∷ 0 ∷ 0 ∷ 0 ∷ 0 ∷ 0 ∷ 0 ∷ 0 ∷ 0 ∷ 0 ∷ 1 ∷ 0 ∷ []) refl)
 
-  module _ (C : Calls 𝓤 H) (Λ : Loops 𝓤 H) (fm : FmC 𝓤 H (W .laws) C) (known-callee : Triple 𝓤 (C #checker·check) (CalleeC 𝓤 H A mem run)) (known-tell : Triple 𝓤 (C #nunthila·tell) (TellC 𝓤 H A mem run)) where
+  module _ (C : Calls 𝓤 H) (Λ : Loops 𝓤 H) (fm : FmC 𝓤 H (W .laws) C) (known-callee : Triple 𝓤 (C #checker·check) (CalleeC 𝓤 H A mem run)) (known-tell : Triple 𝓤 (C #told·tell) (TellC 𝓤 H A mem run)) where
     -- the walk
     walk : ent 𝓤 (onEntry 𝓤 H A exported.signature (κ0, (κ1, (κ2, (κ3, (κ4, (κ5, (κ6, (κ7, (κ8, (κ9, tt)))))))))) (q0, (q1, (q2, (q3, (q4, (q5, (q6, (q7, (q8, (q9, tt)))))))))) a vals) (WpFn 𝓤 H C Λ code.function (at src ∷ at rows ∷ at cells ∷ at nodes ∷ at vars ∷ at types ∷ at errors ∷ at log ∷ at memory ∷ at told ∷ []) Post)
     walk =
@@ -219,14 +219,14 @@ module _ {M : Type 1} (𝓤 : URA M) (H : Heap 𝓤) (A : Atoms 𝓤) (W : Given
 
 module _ {M : Type 1} (𝓤 : URA M) (H : Heap 𝓤) (A : Atoms 𝓤) (W : Given 𝓤 H A) (mem : Memory → SProp 𝓤) (run : Routine → Fun 𝓤) where
   -- the walk, at each choice of lifetimes and arguments
-  check-walks : (C : Calls 𝓤 H) (Λ : Loops 𝓤 H) → FmC 𝓤 H (W .laws) C → Triple 𝓤 (C #checker·check) (CalleeC 𝓤 H A mem run) → Triple 𝓤 (C #nunthila·tell) (TellC 𝓤 H A mem run) → Walks 𝓤 H A exported.ended stayed (WpFn 𝓤 H C Λ code.function) (exported.clauses 𝓤 H A mem run)
+  check-walks : (C : Calls 𝓤 H) (Λ : Loops 𝓤 H) → FmC 𝓤 H (W .laws) C → Triple 𝓤 (C #checker·check) (CalleeC 𝓤 H A mem run) → Triple 𝓤 (C #told·tell) (TellC 𝓤 H A mem run) → Walks 𝓤 H A exported.ended stayed (WpFn 𝓤 H C Λ code.function) (exported.clauses 𝓤 H A mem run)
   check-walks C Λ fm known-callee known-tell = walked 𝓤 H A exported.ended stayed (exported.clauses 𝓤 H A mem run) (WpFn 𝓤 H C Λ code.function)
       (λ κs. (slice-vals, (slice-vals, (slice-vals, (slice-vals, (slice-vals, (slice-vals, (slice-vals, (slice-vals, (slice-vals, (slice-vals, tt))))))))))) (λ κs. (shr-slice-tells (named 0) (κs .0) u8, (mut-slice-tells (named 1) (κs .1 .0) u16, (mut-slice-tells (named 2) (κs .1 .1 .0) u16, (mut-slice-tells (named 3) (κs .1 .1 .1 .0) u16, (mut-slice-tells (named 4) (κs .1 .1 .1 .1 .0) u16, (mut-slice-tells (named 5) (κs .1 .1 .1 .1 .1 .0) u16, (mut-slice-tells (named 6) (κs .1 .1 .1 .1 .1 .1 .0) E.the-row, (mut-slice-tells (named 7) (κs .1 .1 .1 .1 .1 .1 .1 .0) u16, (mut-slice-tells (named 8) (κs .1 .1 .1 .1 .1 .1 .1 .1 .0) u16, (mut-slice-tells (named 9) (κs .1 .1 .1 .1 .1 .1 .1 .1 .1 .0) usize, tt)))))))))))
       (λ κs qs bounds a g are. via 𝓤 _ (fst∗ 𝓤 _ (emp 𝓤)) (walk 𝓤 H A W mem run (κs .0) (κs .1 .0) (κs .1 .1 .0) (κs .1 .1 .1 .0) (κs .1 .1 .1 .1 .0) (κs .1 .1 .1 .1 .1 .0) (κs .1 .1 .1 .1 .1 .1 .0) (κs .1 .1 .1 .1 .1 .1 .1 .0) (κs .1 .1 .1 .1 .1 .1 .1 .1 .0) (κs .1 .1 .1 .1 .1 .1 .1 .1 .1 .0) (qs .0) (qs .1 .0) (qs .1 .1 .0) (qs .1 .1 .1 .0) (qs .1 .1 .1 .1 .0) (qs .1 .1 .1 .1 .1 .0) (qs .1 .1 .1 .1 .1 .1 .0) (qs .1 .1 .1 .1 .1 .1 .1 .0) (qs .1 .1 .1 .1 .1 .1 .1 .1 .0) (qs .1 .1 .1 .1 .1 .1 .1 .1 .1 .0)
       (a .0) (a .1 .0) (a .1 .1 .0) (a .1 .1 .1 .0) (a .1 .1 .1 .1 .0) (a .1 .1 .1 .1 .1 .0) (a .1 .1 .1 .1 .1 .1 .1 .0) (a .1 .1 .1 .1 .1 .1 .1 .1 .0) (a .1 .1 .1 .1 .1 .1 .1 .1 .1 .0) (a .1 .1 .1 .1 .1 .1 .0) (are .0 .0 .1) (are .1 .0 .0 .1) (are .1 .1 .0 .0 .1) (are .1 .1 .1 .0 .0 .1) (are .1 .1 .1 .1 .0 .0 .1) (are .1 .1 .1 .1 .1 .0 .0 .1) (are .1 .1 .1 .1 .1 .1 .0 .0 .1) (are .1 .1 .1 .1 .1 .1 .1 .0 .0 .1) (are .1 .1 .1 .1 .1 .1 .1 .1 .0 .0 .1) (are .1 .1 .1 .1 .1 .1 .1 .1 .1 .0 .0 .1) C Λ fm known-callee known-tell))
 
 -- the function's MIR meets the contract
-check-meets : {M : Type 1} (𝓤 : URA M) (H : Heap 𝓤) (A : Atoms 𝓤) → Given 𝓤 H A → (mem : Memory → SProp 𝓤) (run : Routine → Fun 𝓤) (𝓣 : Tables 𝓤 H) → Triple 𝓤 (𝓣 .C #checker·check) (CalleeC 𝓤 H A mem run) → Triple 𝓤 (𝓣 .C #nunthila·tell) (TellC 𝓤 H A mem run)
+check-meets : {M : Type 1} (𝓤 : URA M) (H : Heap 𝓤) (A : Atoms 𝓤) → Given 𝓤 H A → (mem : Memory → SProp 𝓤) (run : Routine → Fun 𝓤) (𝓣 : Tables 𝓤 H) → Triple 𝓤 (𝓣 .C #checker·check) (CalleeC 𝓤 H A mem run) → Triple 𝓤 (𝓣 .C #told·tell) (TellC 𝓤 H A mem run)
     → Meets 𝓤 H A exported.signature (WpFn 𝓤 H (𝓣 .C) (𝓣 .Λ) code.function) (exported.spec 𝓤 H A mem run)
 check-meets 𝓤 H A W mem run 𝓣 known-callee known-tell =
     walk-meets 𝓤 H A exported.ended stayed W (goes-dropped 𝓤 H A W 10 (shrSliceOf (0 ∷ []) tt (plain (λ _. u8))) yes (λ κs x f. refl), (goes-gave-slice 𝓤 H A W 10 1 tt (plain (λ _. u16)), (goes-gave-slice 𝓤 H A W 10 2 tt (plain (λ _. u16)), (goes-gave-slice 𝓤 H A W 10 3 tt (plain (λ _. u16)), (goes-gave-slice 𝓤 H A W 10 4 tt (plain (λ _. u16)), (goes-gave-slice 𝓤 H A W 10 5 tt (plain (λ _. u16)), (goes-gave-slice 𝓤 H A W 10 6 tt (plain (λ _. E.the-row)), (goes-gave-slice 𝓤 H A W 10 7 tt (plain (λ _. u16)), (goes-gave-slice 𝓤 H A W 10 8 tt (plain (λ _. u16)), (goes-gave-slice 𝓤 H A W 10 9 tt (plain (λ _. usize)), tt)))))))))) (exported.clauses 𝓤 H A mem run)
@@ -240,4 +240,4 @@ nunthila-check-spec 𝓤 H 𝓜 𝓖 𝓡 =
     (tables-of 𝓤 H 𝓜 𝓡 code.env .C) (tables-of 𝓤 H 𝓜 𝓡 code.env .Λ) #nunthila·nunthila-check code.function (code.unfolded 𝓤 H 𝓜 𝓡)
     (check-meets 𝓤 H (𝓖 .A) (givenOf 𝓤 H 𝓜 𝓖) (𝓜 .mem) (𝓡 .run) (tablesOf 𝓤 H 𝓜 (tables-of 𝓤 H 𝓜 𝓡 code.env))
     (cited 𝓤 H (CalleeC 𝓤 H (𝓖 .A) (𝓜 .mem) (𝓡 .run)) 𝓜 𝓡 code.env #checker·check callee-def.routine code.calls-checker·check (callee-thm.met 𝓤 H 𝓜 𝓖 𝓡))
-    (cited 𝓤 H (TellC 𝓤 H (𝓖 .A) (𝓜 .mem) (𝓡 .run)) 𝓜 𝓡 code.env #nunthila·tell tell-def.routine code.calls-nunthila·tell (tell-thm.met 𝓤 H 𝓜 𝓖 𝓡)))
+    (cited 𝓤 H (TellC 𝓤 H (𝓖 .A) (𝓜 .mem) (𝓡 .run)) 𝓜 𝓡 code.env #told·tell tell-def.routine code.calls-told·tell (tell-thm.met 𝓤 H 𝓜 𝓖 𝓡)))

@@ -37,7 +37,7 @@ use denote.Exit.{yes}
 use denote.Signature.{plain, shrSliceOf}
 use Rattle.report.specs.Report.{told as reported, reportOf}
 use Rattle.report_text.specs.Written.{checkedAnswer, reportNumber}
-use Rattle.nunthila.specs.Told.{textLength, toldNumbers, numberTold}
+use Rattle.told.specs.Numbers.{textLength, toldNumbers, numberTold}
 use Rattle.answers.specs.Lent.{lent}
 use Rattle.errors.specs.declared.ErrorRow.{ErrorRow}
 use Rattle.report_text.specs.declared.Reported.{Reported}
@@ -53,10 +53,10 @@ use Rattle.report.proofs.report as callee
 use Rattle.report.proofs.report.Symbol as callee-def
 use Rattle.report.proofs.report.Symbol.{name as #report·report}
 use Rattle.report.proofs.report.Met as callee-thm
-use Rattle.nunthila.proofs.tell_report as tell
-use Rattle.nunthila.proofs.tell_report.Symbol as tell-def
-use Rattle.nunthila.proofs.tell_report.Symbol.{name as #nunthila·tell-report}
-use Rattle.nunthila.proofs.tell_report.Met as tell-thm
+use Rattle.told.proofs.tell_report as tell
+use Rattle.told.proofs.tell_report.Symbol as tell-def
+use Rattle.told.proofs.tell_report.Symbol.{name as #told·tell-report}
+use Rattle.told.proofs.tell_report.Met as tell-thm
 use Rattle.nunthila.proofs.nunthila_report.Key.{name as #nunthila·nunthila-report}
 use Rattle.nunthila.proofs.nunthila_report as exported
 use Rattle.nunthila.proofs.nunthila_report.Statement as stated
@@ -180,7 +180,7 @@ module _ {M : Type 1} (𝓤 : URA M) (H : Heap 𝓤) (A : Atoms 𝓤) (W : Given
       (‵ (flft κ0 q0) ∷ ‵ (flft κ1 q1) ∷ ‵ (flft κ2 q2) ∷ ‵ (flft κ3 q3) ∷ ‵ (flft κ4 q4) ∷ ‵ (flft κ5 q5) ∷ ‵ (flft κ6 q6) ∷ ‵ (flft κ7 q7) ∷ ‵ (flft κ8 q8) ∷ ‵ (flft κ9 q9) ∷ ‵ (flft κ10 q10) ∷ ‵ ftrue ∷ [])
       (‵ ftrue ∷ ‵ (finally u16 (rows .name) (zs .1 .0)) ∷ ‵ (finally u16 (cells .name) (zs .1 .1 .0)) ∷ ‵ (finally u16 (nodes .name) (zs .1 .1 .1 .0)) ∷ ‵ (finally u16 (vars .name) (zs .1 .1 .1 .1 .0)) ∷ ‵ (finally u16 (types .name) (zs .1 .1 .1 .1 .1 .0)) ∷ ‵ (finally E.the-row (errors .name) (zs .1 .1 .1 .1 .1 .1 .0)) ∷ ‵ (finally u16 (log .name) (zs .1 .1 .1 .1 .1 .1 .1 .0)) ∷ ‵ (finally u16 (memory .name) (zs .1 .1 .1 .1 .1 .1 .1 .1 .0)) ∷ ‵ (finally u8 (out .name) (zs .1 .1 .1 .1 .1 .1 .1 .1 .1 .0)) ∷ ‵ (finally usize (told .name) vs) ∷ ‵ ftrue ∷ []) (‵ (usize .own k (u ∷ [])) ∷ []) (0 ∷ 0 ∷ 0 ∷ 0 ∷ 0 ∷ 0 ∷ 0 ∷ 0 ∷ 0 ∷ 0 ∷ 9 ∷ 11 ∷ 11 ∷ 0 ∷ 0 ∷ 0 ∷ 0 ∷ 0 ∷ 0 ∷ 0 ∷ 0 ∷ 0 ∷ 0 ∷ 1 ∷ 0 ∷ []) refl)
 
-  module _ (C : Calls 𝓤 H) (Λ : Loops 𝓤 H) (fm : FmC 𝓤 H (W .laws) C) (known-callee : Triple 𝓤 (C #report·report) (CalleeC 𝓤 H A mem run)) (known-tell : Triple 𝓤 (C #nunthila·tell-report) (TellC 𝓤 H A mem run)) where
+  module _ (C : Calls 𝓤 H) (Λ : Loops 𝓤 H) (fm : FmC 𝓤 H (W .laws) C) (known-callee : Triple 𝓤 (C #report·report) (CalleeC 𝓤 H A mem run)) (known-tell : Triple 𝓤 (C #told·tell-report) (TellC 𝓤 H A mem run)) where
     -- the walk
     walk : ent 𝓤 (onEntry 𝓤 H A exported.signature (κ0, (κ1, (κ2, (κ3, (κ4, (κ5, (κ6, (κ7, (κ8, (κ9, (κ10, tt))))))))))) (q0, (q1, (q2, (q3, (q4, (q5, (q6, (q7, (q8, (q9, (q10, tt))))))))))) a vals) (WpFn 𝓤 H C Λ code.function (at src ∷ at rows ∷ at cells ∷ at nodes ∷ at vars ∷ at types ∷ at errors ∷ at log ∷ at memory ∷ at out ∷ at told ∷ []) Post)
     walk =
@@ -221,14 +221,14 @@ module _ {M : Type 1} (𝓤 : URA M) (H : Heap 𝓤) (A : Atoms 𝓤) (W : Given
 
 module _ {M : Type 1} (𝓤 : URA M) (H : Heap 𝓤) (A : Atoms 𝓤) (W : Given 𝓤 H A) (mem : Memory → SProp 𝓤) (run : Routine → Fun 𝓤) where
   -- the walk, at each choice of lifetimes and arguments
-  report-walks : (C : Calls 𝓤 H) (Λ : Loops 𝓤 H) → FmC 𝓤 H (W .laws) C → Triple 𝓤 (C #report·report) (CalleeC 𝓤 H A mem run) → Triple 𝓤 (C #nunthila·tell-report) (TellC 𝓤 H A mem run) → Walks 𝓤 H A exported.ended stayed (WpFn 𝓤 H C Λ code.function) (exported.clauses 𝓤 H A mem run)
+  report-walks : (C : Calls 𝓤 H) (Λ : Loops 𝓤 H) → FmC 𝓤 H (W .laws) C → Triple 𝓤 (C #report·report) (CalleeC 𝓤 H A mem run) → Triple 𝓤 (C #told·tell-report) (TellC 𝓤 H A mem run) → Walks 𝓤 H A exported.ended stayed (WpFn 𝓤 H C Λ code.function) (exported.clauses 𝓤 H A mem run)
   report-walks C Λ fm known-callee known-tell = walked 𝓤 H A exported.ended stayed (exported.clauses 𝓤 H A mem run) (WpFn 𝓤 H C Λ code.function)
       (λ κs. (slice-vals, (slice-vals, (slice-vals, (slice-vals, (slice-vals, (slice-vals, (slice-vals, (slice-vals, (slice-vals, (slice-vals, (slice-vals, tt)))))))))))) (λ κs. (shr-slice-tells (named 0) (κs .0) u8, (mut-slice-tells (named 1) (κs .1 .0) u16, (mut-slice-tells (named 2) (κs .1 .1 .0) u16, (mut-slice-tells (named 3) (κs .1 .1 .1 .0) u16, (mut-slice-tells (named 4) (κs .1 .1 .1 .1 .0) u16, (mut-slice-tells (named 5) (κs .1 .1 .1 .1 .1 .0) u16, (mut-slice-tells (named 6) (κs .1 .1 .1 .1 .1 .1 .0) E.the-row, (mut-slice-tells (named 7) (κs .1 .1 .1 .1 .1 .1 .1 .0) u16, (mut-slice-tells (named 8) (κs .1 .1 .1 .1 .1 .1 .1 .1 .0) u16, (mut-slice-tells (named 9) (κs .1 .1 .1 .1 .1 .1 .1 .1 .1 .0) u8, (mut-slice-tells (named 10) (κs .1 .1 .1 .1 .1 .1 .1 .1 .1 .1 .0) usize, tt))))))))))))
       (λ κs qs bounds a g are. via 𝓤 _ (fst∗ 𝓤 _ (emp 𝓤)) (walk 𝓤 H A W mem run (κs .0) (κs .1 .0) (κs .1 .1 .0) (κs .1 .1 .1 .0) (κs .1 .1 .1 .1 .0) (κs .1 .1 .1 .1 .1 .0) (κs .1 .1 .1 .1 .1 .1 .0) (κs .1 .1 .1 .1 .1 .1 .1 .0) (κs .1 .1 .1 .1 .1 .1 .1 .1 .0) (κs .1 .1 .1 .1 .1 .1 .1 .1 .1 .0) (κs .1 .1 .1 .1 .1 .1 .1 .1 .1 .1 .0) (qs .0) (qs .1 .0) (qs .1 .1 .0) (qs .1 .1 .1 .0) (qs .1 .1 .1 .1 .0) (qs .1 .1 .1 .1 .1 .0) (qs .1 .1 .1 .1 .1 .1 .0) (qs .1 .1 .1 .1 .1 .1 .1 .0) (qs .1 .1 .1 .1 .1 .1 .1 .1 .0) (qs .1 .1 .1 .1 .1 .1 .1 .1 .1 .0) (qs .1 .1 .1 .1 .1 .1 .1 .1 .1 .1 .0)
       (a .0) (a .1 .0) (a .1 .1 .0) (a .1 .1 .1 .0) (a .1 .1 .1 .1 .0) (a .1 .1 .1 .1 .1 .0) (a .1 .1 .1 .1 .1 .1 .1 .0) (a .1 .1 .1 .1 .1 .1 .1 .1 .0) (a .1 .1 .1 .1 .1 .1 .1 .1 .1 .0) (a .1 .1 .1 .1 .1 .1 .1 .1 .1 .1 .0) (a .1 .1 .1 .1 .1 .1 .0) (are .0 .0 .1) (are .1 .0 .0 .1) (are .1 .1 .0 .0 .1) (are .1 .1 .1 .0 .0 .1) (are .1 .1 .1 .1 .0 .0 .1) (are .1 .1 .1 .1 .1 .0 .0 .1) (are .1 .1 .1 .1 .1 .1 .0 .0 .1) (are .1 .1 .1 .1 .1 .1 .1 .0 .0 .1) (are .1 .1 .1 .1 .1 .1 .1 .1 .0 .0 .1) (are .1 .1 .1 .1 .1 .1 .1 .1 .1 .0 .0 .1) (are .1 .1 .1 .1 .1 .1 .1 .1 .1 .1 .0 .0 .1) C Λ fm known-callee known-tell))
 
 -- the function's MIR meets the contract
-report-meets : {M : Type 1} (𝓤 : URA M) (H : Heap 𝓤) (A : Atoms 𝓤) → Given 𝓤 H A → (mem : Memory → SProp 𝓤) (run : Routine → Fun 𝓤) (𝓣 : Tables 𝓤 H) → Triple 𝓤 (𝓣 .C #report·report) (CalleeC 𝓤 H A mem run) → Triple 𝓤 (𝓣 .C #nunthila·tell-report) (TellC 𝓤 H A mem run)
+report-meets : {M : Type 1} (𝓤 : URA M) (H : Heap 𝓤) (A : Atoms 𝓤) → Given 𝓤 H A → (mem : Memory → SProp 𝓤) (run : Routine → Fun 𝓤) (𝓣 : Tables 𝓤 H) → Triple 𝓤 (𝓣 .C #report·report) (CalleeC 𝓤 H A mem run) → Triple 𝓤 (𝓣 .C #told·tell-report) (TellC 𝓤 H A mem run)
     → Meets 𝓤 H A exported.signature (WpFn 𝓤 H (𝓣 .C) (𝓣 .Λ) code.function) (exported.spec 𝓤 H A mem run)
 report-meets 𝓤 H A W mem run 𝓣 known-callee known-tell =
     walk-meets 𝓤 H A exported.ended stayed W (goes-dropped 𝓤 H A W 11 (shrSliceOf (0 ∷ []) tt (plain (λ _. u8))) yes (λ κs x f. refl), (goes-gave-slice 𝓤 H A W 11 1 tt (plain (λ _. u16)), (goes-gave-slice 𝓤 H A W 11 2 tt (plain (λ _. u16)), (goes-gave-slice 𝓤 H A W 11 3 tt (plain (λ _. u16)), (goes-gave-slice 𝓤 H A W 11 4 tt (plain (λ _. u16)), (goes-gave-slice 𝓤 H A W 11 5 tt (plain (λ _. u16)), (goes-gave-slice 𝓤 H A W 11 6 tt (plain (λ _. E.the-row)), (goes-gave-slice 𝓤 H A W 11 7 tt (plain (λ _. u16)), (goes-gave-slice 𝓤 H A W 11 8 tt (plain (λ _. u16)), (goes-gave-slice 𝓤 H A W 11 9 tt (plain (λ _. u8)), (goes-gave-slice 𝓤 H A W 11 10 tt (plain (λ _. usize)), tt))))))))))) (exported.clauses 𝓤 H A mem run)
@@ -242,4 +242,4 @@ nunthila-report-spec 𝓤 H 𝓜 𝓖 𝓡 =
     (tables-of 𝓤 H 𝓜 𝓡 code.env .C) (tables-of 𝓤 H 𝓜 𝓡 code.env .Λ) #nunthila·nunthila-report code.function (code.unfolded 𝓤 H 𝓜 𝓡)
     (report-meets 𝓤 H (𝓖 .A) (givenOf 𝓤 H 𝓜 𝓖) (𝓜 .mem) (𝓡 .run) (tablesOf 𝓤 H 𝓜 (tables-of 𝓤 H 𝓜 𝓡 code.env))
     (cited 𝓤 H (CalleeC 𝓤 H (𝓖 .A) (𝓜 .mem) (𝓡 .run)) 𝓜 𝓡 code.env #report·report callee-def.routine code.calls-report·report (callee-thm.met 𝓤 H 𝓜 𝓖 𝓡))
-    (cited 𝓤 H (TellC 𝓤 H (𝓖 .A) (𝓜 .mem) (𝓡 .run)) 𝓜 𝓡 code.env #nunthila·tell-report tell-def.routine code.calls-nunthila·tell-report (tell-thm.met 𝓤 H 𝓜 𝓖 𝓡)))
+    (cited 𝓤 H (TellC 𝓤 H (𝓖 .A) (𝓜 .mem) (𝓡 .run)) 𝓜 𝓡 code.env #told·tell-report tell-def.routine code.calls-told·tell-report (tell-thm.met 𝓤 H 𝓜 𝓖 𝓡)))

@@ -1,5 +1,5 @@
 use Rattle.report_text.proofs.LineLaws.{each-none, each-next, each-all}
-use Rattle.report_text.specs.Lines.{eachText}
+use Rattle.error_lines.specs.ErrorLines.{eachText}
 use Rattle.output.specs.Output.{Appends}
 use lib.ListN.{length, take}
 use Prim.Native.Nat.{_≤_, _-_}

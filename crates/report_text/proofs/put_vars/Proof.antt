@@ -1,4 +1,4 @@
-use Rattle.report_text.proofs.LineLaws.{rows-none, rows-next, rows-all}
+use Rattle.error_lines.specs.Turns.{rows-none, rows-next, rows-all}
 use Rattle.report_text.specs.Lines.{varLine, varLines}
 use Rattle.output.specs.Appending.{then}
 use Rattle.tables.specs.Rows.{cellsTo}

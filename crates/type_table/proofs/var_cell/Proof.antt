@@ -7,8 +7,5 @@ pub var-cell-spec : {M : Type 1} → statement M
 var-cell-spec =
     tie.close (tie.spec
     (λ c. var-end (c .before .before .args .m .now) _ _ (c .before .before .args .k) (c .if1 .taken))
-    (λ c. search needs)
-    (λ c. search needs)
-    (λ c. search needs)
     (λ c κs. search needs)
-    (λ c. var-in (c .before .before .before .args .m .now) _ _ (c .before .before .before .args .k) _ (c .before .if1 .left) (c .read .ensures)))
+    (λ c. var-in (c .before .before .before .args .m .now) _ _ (c .before .before .before .args .k) _ (c .before .if1 .left) (c .var-cell .ensures)))

@@ -1,0 +1,2 @@
+pub mod ErrorLines
+pub mod Turns
