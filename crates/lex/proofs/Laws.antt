@@ -89,62 +89,34 @@ module _ (w : ℕ) (s : List ℕ) (i c : ℕ) (inv : w ≡ i + before c (drop i 
   unfolding before
   passed h q = inv ∙ rw (next s i (getD s i 0) h refl, ne-eqb (getD s i 0) c q) (omega arith)
 
--- the end of a field, w, by eight bytes from i on
-module _ (w : ℕ) (s : List ℕ) (i c : ℕ) (inv : w ≡ i + before c (drop i s)) (h : 8 ≤ length s - i) where
+-- the end of a field, w, by four bytes from i on
+module _ (w : ℕ) (s : List ℕ) (i c : ℕ) (inv : w ≡ i + before c (drop i s)) (h : 4 ≤ length s - i) where
   pub found-1 : getD s i 0 ≡ c → w ≡ i
   found-1 e = found w s i c inv (omega arith) e
 
-  module _ (n1 : getD s i 0 ≡ c → ⊥) where
+  module _ (n : getD s i 0 ≡ c → ⊥) where
     past-1 : w ≡ i + 1 + before c (drop (i + 1) s)
-    past-1 = passed w s i c inv (omega arith) n1
+    past-1 = passed w s i c inv (omega arith) n
 
     pub found-2 : getD s (i + 1) 0 ≡ c → w ≡ i + 1
     found-2 e = found w s (i + 1) c past-1 (omega arith) e
 
-    module _ (n2 : getD s (i + 1) 0 ≡ c → ⊥) where
+    module _ (o : getD s (i + 1) 0 ≡ c → ⊥) where
       past-2 : w ≡ i + 1 + 1 + before c (drop (i + 1 + 1) s)
-      past-2 = passed w s (i + 1) c past-1 (omega arith) n2
+      past-2 = passed w s (i + 1) c past-1 (omega arith) o
 
       pub found-3 : getD s (i + 1 + 1) 0 ≡ c → w ≡ i + 1 + 1
       found-3 e = found w s (i + 1 + 1) c past-2 (omega arith) e
 
-      module _ (n3 : getD s (i + 1 + 1) 0 ≡ c → ⊥) where
+      module _ (q : getD s (i + 1 + 1) 0 ≡ c → ⊥) where
         past-3 : w ≡ i + 1 + 1 + 1 + before c (drop (i + 1 + 1 + 1) s)
-        past-3 = passed w s (i + 1 + 1) c past-2 (omega arith) n3
+        past-3 = passed w s (i + 1 + 1) c past-2 (omega arith) q
 
         pub found-4 : getD s (i + 1 + 1 + 1) 0 ≡ c → w ≡ i + 1 + 1 + 1
         found-4 e = found w s (i + 1 + 1 + 1) c past-3 (omega arith) e
 
-        module _ (n4 : getD s (i + 1 + 1 + 1) 0 ≡ c → ⊥) where
-          past-4 : w ≡ i + 1 + 1 + 1 + 1 + before c (drop (i + 1 + 1 + 1 + 1) s)
-          past-4 = passed w s (i + 1 + 1 + 1) c past-3 (omega arith) n4
-
-          pub found-5 : getD s (i + 1 + 1 + 1 + 1) 0 ≡ c → w ≡ i + 1 + 1 + 1 + 1
-          found-5 e = found w s (i + 1 + 1 + 1 + 1) c past-4 (omega arith) e
-
-          module _ (n5 : getD s (i + 1 + 1 + 1 + 1) 0 ≡ c → ⊥) where
-            past-5 : w ≡ i + 1 + 1 + 1 + 1 + 1 + before c (drop (i + 1 + 1 + 1 + 1 + 1) s)
-            past-5 = passed w s (i + 1 + 1 + 1 + 1) c past-4 (omega arith) n5
-
-            pub found-6 : getD s (i + 1 + 1 + 1 + 1 + 1) 0 ≡ c → w ≡ i + 1 + 1 + 1 + 1 + 1
-            found-6 e = found w s (i + 1 + 1 + 1 + 1 + 1) c past-5 (omega arith) e
-
-            module _ (n6 : getD s (i + 1 + 1 + 1 + 1 + 1) 0 ≡ c → ⊥) where
-              past-6 : w ≡ i + 1 + 1 + 1 + 1 + 1 + 1 + before c (drop (i + 1 + 1 + 1 + 1 + 1 + 1) s)
-              past-6 = passed w s (i + 1 + 1 + 1 + 1 + 1) c past-5 (omega arith) n6
-
-              pub found-7 : getD s (i + 1 + 1 + 1 + 1 + 1 + 1) 0 ≡ c → w ≡ i + 1 + 1 + 1 + 1 + 1 + 1
-              found-7 e = found w s (i + 1 + 1 + 1 + 1 + 1 + 1) c past-6 (omega arith) e
-
-              module _ (n7 : getD s (i + 1 + 1 + 1 + 1 + 1 + 1) 0 ≡ c → ⊥) where
-                past-7 : w ≡ i + 1 + 1 + 1 + 1 + 1 + 1 + 1 + before c (drop (i + 1 + 1 + 1 + 1 + 1 + 1 + 1) s)
-                past-7 = passed w s (i + 1 + 1 + 1 + 1 + 1 + 1) c past-6 (omega arith) n7
-
-                pub found-8 : getD s (i + 1 + 1 + 1 + 1 + 1 + 1 + 1) 0 ≡ c → w ≡ i + 1 + 1 + 1 + 1 + 1 + 1 + 1
-                found-8 e = found w s (i + 1 + 1 + 1 + 1 + 1 + 1 + 1) c past-7 (omega arith) e
-
-                pub past-8 : (getD s (i + 1 + 1 + 1 + 1 + 1 + 1 + 1) 0 ≡ c → ⊥) → w ≡ i + 1 + 1 + 1 + 1 + 1 + 1 + 1 + 1 + before c (drop (i + 1 + 1 + 1 + 1 + 1 + 1 + 1 + 1) s)
-                past-8 q = passed w s (i + 1 + 1 + 1 + 1 + 1 + 1 + 1) c past-7 (omega arith) q
+        pub past-4 : (getD s (i + 1 + 1 + 1) 0 ≡ c → ⊥) → w ≡ i + 1 + 1 + 1 + 1 + before c (drop (i + 1 + 1 + 1 + 1) s)
+        past-4 r = passed w s (i + 1 + 1 + 1) c past-3 (omega arith) r
 
 -- the bytes before the first c
 abbrev pub part : ℕ → List ℕ → List ℕ

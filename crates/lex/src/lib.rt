@@ -95,30 +95,14 @@ pub fn scan(s: &[u8], p: usize) -> Field
     Field::Number(n as u16, i)
 }
 
-// The end of the field that starts at p: the next separator, or the end. Eight bytes to a turn, then those that are left.
+// The end of the field that starts at p: the next separator, or the end. Four bytes to a turn, then those that are left.
 pub fn field_end(s: &[u8], p: usize, c: u8) -> usize
     requires { ⌜ p ≤ length (now s) ⌝ }
     ensures { λ r. ⌜ r ≡ p + before c (drop p (now (s .entry))) ⌝ }
     ensures within { λ r. ⌜ (p ≤ r) × (r ≤ length (now (s .entry))) ⌝ }
 {
     let mut i = p;
-    while 8 <= s.len() - i {
-        if s[i] == c {
-            return i;
-        }
-        i += 1;
-        if s[i] == c {
-            return i;
-        }
-        i += 1;
-        if s[i] == c {
-            return i;
-        }
-        i += 1;
-        if s[i] == c {
-            return i;
-        }
-        i += 1;
+    while 4 <= s.len() - i {
         if s[i] == c {
             return i;
         }

@@ -3,7 +3,7 @@ use mathlib.Core.Path.{_≡_, sym}
 use borrow.Author.Needs.{needs}
 use lib.ListN.{length, drop}
 use Rattle.lex.specs.Text.{before}
-use Rattle.lex.proofs.Laws.{found, passed, none, found-1, found-2, found-3, found-4, found-5, found-6, found-7, found-8, past-8}
+use Rattle.lex.proofs.Laws.{found, passed, none, found-1, found-2, found-3, found-4, past-4}
 use Rattle.lex.proofs.field_end.Statement.{statement}
 use Rattle.lex.proofs.field_end.Tie as tie
 
@@ -41,19 +41,7 @@ field-end-spec =
     (λ c. (sym (search found-4), search needs))
     (λ c. search needs)
     (λ c. search needs)
-    (λ c. (sym (search found-5), search needs))
-    (λ c. search needs)
-    (λ c. search needs)
-    (λ c. (sym (search found-6), search needs))
-    (λ c. search needs)
-    (λ c. search needs)
-    (λ c. (sym (search found-7), search needs))
-    (λ c. search needs)
-    (λ c. search needs)
-    (λ c. (sym (search found-8), search needs))
-    (λ c. search needs)
-    (λ c. search needs)
-    (λ c. (search needs, search needs, search past-8))
+    (λ c. (search needs, search needs, search past-4))
     (λ c. search needs)
     (λ c. search needs)
     (λ c. (sym (search found), search needs))
