@@ -7,7 +7,7 @@ use Prim.Native.Nat.{ℕ, _+_, _≤_}
 use native.Mathlib.Omega.{arith}
 use borrow.Author.Needs.{needs}
 use lib.ListN.{length, length-append}
-use Rattle.theory.specs.Rules.{Shape, var, Kind, Out, success, mismatch, kindOrder, refused12, refused13, dry, Res}
+use Rattle.theory.specs.Rules.{Shape, var, Kind, Out, success, mismatch, refused12, refused13, dry, Res}
 use Rattle.theory.specs.Program.{firstEqual, sane, drawn, appended, emitted, written, refused, marking, raised, pooled, internIf, interned, react, run, _>>=_, goOn, run-bind}
 use Rattle.record.specs.declared.TypingError.{TypingError}
 use Rattle.record.specs.Own.{Own}
@@ -151,7 +151,6 @@ raised-larger e g r s = record { vars = omega arith; rows = omega arith; inputs 
 react-larger : (p : ℕ) (o : Out) (f : Out → TypingError) (s : State) → Larger (cost 0 0 0 1 0) s ((react p o f (λ c t. (some c, t)) s) .1)
 react-larger p success f s = larger-within (search needs) (same-larger s)
 react-larger p mismatch f s = emitted-larger (f mismatch) s
-react-larger p kindOrder f s = emitted-larger (f kindOrder) s
 react-larger p refused12 f s = larger-within (search needs) (refused-larger 12 p s)
 react-larger p refused13 f s = larger-within (search needs) (refused-larger 13 p s)
 react-larger p dry f s = larger-within (search needs) (refused-larger 12 p s)

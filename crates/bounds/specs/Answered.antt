@@ -4,7 +4,7 @@ use mathlib.Core.Option.{Option, none, some}
 use mathlib.Core.Bool.{Bool, true, false}
 use Prim.Native.Nat.{ℕ}
 use lib.ListN.{length}
-use Rattle.theory.specs.Rules.{Shape, Out, success, mismatch, kindOrder, refused12, refused13, dry, Pair}
+use Rattle.theory.specs.Rules.{Shape, Out, success, mismatch, refused12, refused13, dry, Pair}
 use Rattle.theory.specs.Program.{done, refuse, draw, intern, equate, emit, mark, read, write, clip, firstEqual, sane, drawn, appended, emitted, written, refused, marking, raised, pooled, internIf, interned, solved, react, run}
 use Rattle.record.specs.declared.TypingError.{TypingError}
 use Rattle.record.specs.Steps.{State, Walk}
@@ -36,7 +36,6 @@ react-told : {A : Type 0} (n : ℕ) (o : Out) (e : Out → TypingError) (g : Boo
 unfolding emitted refused
 react-told n success e g s h again = again true s h
 react-told n mismatch e g s h again = again false (emitted (e mismatch) s) h
-react-told n kindOrder e g s h again = again false (emitted (e kindOrder) s) h
 react-told n refused12 e g s h again = (12, n, refl)
 react-told n refused13 e g s h again = (13, n, refl)
 react-told n dry e g s h again = (12, n, refl)

@@ -230,7 +230,7 @@ module _ (n : Counts) (rows cells : List ℕ) where
       × ((v : Way) × Kinded (end n rows cells .kinds) v × All (Meets (end n rows cells .rows) v) (end n rows cells .log))
   demand-3-without-error = without-error n rows cells
 
-  -- whatever the answer: no way meets the equations up to and including the first that failed with cause 1 or was refused 12
+  -- whatever the answer: no way meets the equations up to and including the first that failed or was refused 12
   pub demand-3-first-failure : (later before : List Equation) (q : Equation) → end n rows cells .log ≡ later ++ q ∷ before → Failed (q .answer) → All Went before → All (Sided (end n rows cells .rows)) (q ∷ before)
       → (v : Way) → Kinded (end n rows cells .kinds) v → All (Meets (end n rows cells .rows) v) (q ∷ before) → ⊥
   demand-3-first-failure = first-failure n rows cells

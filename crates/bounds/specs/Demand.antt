@@ -29,7 +29,7 @@ module _ (n : Counts) (rows cells : List ℕ) where
   without-error = theory.demand-3-without-error fixed-types (blank (fnLine rows cells .output .0)) (type-body n rows cells) refl
 
   -- whatever the answer, the sides so up to and including the first equation q that fails or is refused 12: no way meets all the
-  -- equations up to and including that one, unless its cause is kind order. The log has the newest first
+  -- equations up to and including that one. The log has the newest first
   pub first-failure : (after before : List Equation) (q : Equation) → end .log ≡ after ++ q ∷ before → Failed (q .answer) → All Went before → All (Sided (end .rows)) (q ∷ before)
       → (w : Way) → Kinded (end .kinds) w → All (Meets (end .rows) w) (q ∷ before) → ⊥
   first-failure = theory.demand-3-first-failure fixed-types (blank (fnLine rows cells .output .0)) (type-body n rows cells) refl

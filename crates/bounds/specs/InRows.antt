@@ -7,7 +7,7 @@ use Prim.Native.Nat.{ℕ, suc, zero, _+_, _<_, _≤_}
 use native.Mathlib.Omega.{arith}
 use borrow.Author.Tests.{lt-ltb}
 use lib.ListN.{length, getD, replicate, length-append}
-use Rattle.theory.specs.Rules.{Base, bool, nil, float, double, uint, int, inst, Shape, base, var, arr, ref, fn, fun, lam, err, div, Kind, Out, success, mismatch, kindOrder, refused12, refused13, dry, asVar, row, bound}
+use Rattle.theory.specs.Rules.{Base, bool, nil, float, double, uint, int, inst, Shape, base, var, arr, ref, fn, fun, lam, err, div, Kind, Out, success, mismatch, refused12, refused13, dry, asVar, row, bound}
 use Rattle.theory.specs.Program.{done, refuse, draw, intern, equate, emit, mark, read, write, clip, firstEqual, allBelow, sane, drawn, appended, emitted, written, marking, raised, pooled, internIf, interned, solved, react, run}
 use Rattle.theory.specs.Basics.{All, all-map, clash}
 use Rattle.theory.specs.Demand.{Track, track}
@@ -208,7 +208,6 @@ run-in-rows N (equate n x y e f) s I H =
         → ((c : Bool) (u : State) → Stands N u → length (u .rows) ≡ length (t .rows) → InRows (f c) u) → Behind o e (λ c u. InRows (f c) u) t
     by success t k r w again = again true t (record { track = k; rows = r; own = w }) refl
     by mismatch t k r w again = again false (emitted (e mismatch) t) (record { track = k; rows = r; own = w }) refl
-    by kindOrder t k r w again = again false (emitted (e kindOrder) t) (record { track = k; rows = r; own = w }) refl
     by refused12 t k r w again = tt
     by refused13 t k r w again = tt
     by dry t k r w again = tt

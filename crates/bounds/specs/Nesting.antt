@@ -12,7 +12,7 @@ use borrow.Author.Tests.{ltb-true, ltb-false}
 use lib.Dec.{ltb}
 use lib.ListN.{length, List·getD-append}
 use lib.Seq.{getD-append-add}
-use Rattle.theory.specs.Rules.{Shape, base, var, arr, ref, fn, fun, lam, err, div, nil, Kind, Out, success, mismatch, kindOrder, refused12, refused13, dry, row}
+use Rattle.theory.specs.Rules.{Shape, base, var, arr, ref, fn, fun, lam, err, div, nil, Kind, Out, success, mismatch, refused12, refused13, dry, row}
 use Rattle.theory.specs.Program.{done, refuse, draw, intern, equate, emit, mark, read, write, clip, firstEqual, sane, drawn, appended, emitted, written, refused, marking, raised, pooled, internIf, interned, solved, react, run, _>>=_}
 use Rattle.theory.specs.Basics.{All, all-map, clash}
 use Rattle.theory.specs.Depth.{In, Pure, pure-base, pure-fn, pure-err, pure-div, pure-array, pure-function, Functions}
@@ -96,7 +96,6 @@ module _ (l : List Shape) where
           → More l ((react n o e (λ c u. run (g c) u) t) .1 .rows)
       by success t q again = again true t q
       by mismatch t q again = again false (emitted (e mismatch) t) q
-      by kindOrder t q again = again false (emitted (e kindOrder) t) q
       by refused12 t q again = q
       by refused13 t q again = q
       by dry t q again = q
@@ -111,7 +110,6 @@ module _ (l : List Shape) where
 abbrev pub Behind : Out → (Out → TypingError) → (Bool → State → Type 0) → State → Type 0
 Behind success e K s = K true s
 Behind mismatch e K s = K false (emitted (e mismatch) s)
-Behind kindOrder e K s = K false (emitted (e kindOrder) s)
 Behind refused12 e K s = Unit {0}
 Behind refused13 e K s = Unit {0}
 Behind dry e K s = Unit {0}
@@ -148,7 +146,6 @@ at-confined P l h N (equate n x y e g) f s m =
     by : (o : Out) (t : State) → More l (t .rows) → ((c : Bool) (u : State) → More l (u .rows) → AtEquations P (g c) u) → Behind o e (λ c u. AtEquations P (g c) u) t
     by success t q again = again true t q
     by mismatch t q again = again false (emitted (e mismatch) t) q
-    by kindOrder t q again = again false (emitted (e kindOrder) t) q
     by refused12 t q again = tt
     by refused13 t q again = tt
     by dry t q again = tt

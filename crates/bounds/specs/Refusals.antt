@@ -5,7 +5,7 @@ use mathlib.Core.Option.{Option, none, some}
 use mathlib.Core.Bool.{Bool, true, false}
 use Prim.Native.Nat.{ℕ}
 use lib.ListN.{length}
-use Rattle.theory.specs.Rules.{Out, success, mismatch, kindOrder, refused12, refused13, dry, Pair}
+use Rattle.theory.specs.Rules.{Out, success, mismatch, refused12, refused13, dry, Pair}
 use Rattle.theory.specs.Program.{done, refuse, draw, intern, equate, emit, mark, read, write, clip, drawn, emitted, written, refused, marking, raised, interned, solved, react, run}
 use Rattle.theory.specs.Start.{start}
 use Rattle.type_table.specs.Sound.{fixed-types}
@@ -31,7 +31,6 @@ react-placed : {A : Type 0} (N n : ℕ) (o : Out) (e : Out → TypingError) (g :
 unfolding emitted refused
 react-placed N n success e g s p q h again = again true s h
 react-placed N n mismatch e g s p q h again = again false (emitted (e mismatch) s) h
-react-placed N n kindOrder e g s p q h again = again false (emitted (e kindOrder) s) h
 react-placed N n refused12 e g s p q h again = p
 react-placed N n refused13 e g s p q h again = q
 react-placed N n dry e g s p q h again = p

@@ -98,7 +98,7 @@ module _ (s : List ℕ) (l : Lent) where
   held-types = demand.held-types s l
 
 -- whatever the answer and whatever is lent, the sides so up to and including the first equation q that fails or is refused 12: no way meets all the equations up to and
--- including that one, unless its cause is kind order. The newest equation stands first
+-- including that one. The newest equation stands first
 pub demand-3-first-failure : (s : List ℕ) (after before : List Equation) (q : Equation) → equationsOf s ≡ after ++ q ∷ before → Failed (q .answer) → All Went before
     → All (Sided (typesOf s)) (q ∷ before) → (w : Way) → Kinded (kindsOf s) w → All (Meets (typesOf s) w) (q ∷ before) → ⊥
 demand-3-first-failure = demand.no-way

@@ -7,7 +7,7 @@ use Prim.Native.Nat.{ℕ, _+_, _*_, _≤_}
 use native.Mathlib.Omega.{arith}
 use lib.ListN.{length, set, length-set}
 use lib.Seq.{getD-set-same}
-use Rattle.theory.specs.Rules.{Out, success, mismatch, kindOrder, refused12, refused13, dry, Res}
+use Rattle.theory.specs.Rules.{Out, success, mismatch, refused12, refused13, dry, Res}
 use Rattle.theory.specs.Program.{clip, emitted, refused, raised, solved, react, run}
 use Rattle.theory.specs.Keep.{Ended}
 use Rattle.type_table.specs.declared.TypeId.{TypeId}
@@ -16,7 +16,6 @@ use Rattle.type_table.specs.Frames.{SameIn, set-above}
 use Rattle.type_table.specs.Sound.{Sound, stateOf}
 use Rattle.unify.specs.declared.Answer.{Answer}
 use Rattle.unify.specs.declared.Answer.the-variants.{Success, Mismatch, Refused12, Refused13}
-use Rattle.unify.specs.declared.Cause.the-variants.{Other, KindOrder}
 use Rattle.unify.specs.Promise.{Frame, Solved, SolvedBy, answerIs, solveIn}
 use Rattle.unify.specs.Keeps.{held-sound, never-dry, unify-sound, unify-step}
 use Rattle.record.specs.declared.Record.{Record}
@@ -27,7 +26,7 @@ use Rattle.record.specs.Own.{log-at, most-errors}
 use Rattle.record.specs.Steps.{State, caused, error, equation}
 use Rattle.record.specs.Encodes.{answerNumber, Logged, Encodes, Fits, Runs, Equates}
 use Rattle.record.specs.Runs.{encodes-refused}
-use Rattle.record.specs.Answers.{oneEquation, logWritten, Logs, withCause, Fails}
+use Rattle.record.specs.Answers.{oneEquation, logWritten, Logs, Fails}
 use Rattle.record.specs.Behind.{Behind, behind-sound, behind-state}
 use Rattle.record.specs.Regions.{own-kept, errors-kept, logged-kept, length-errors}
 use Rattle.record.specs.InTables.{InTables, tables-frame}
@@ -89,8 +88,7 @@ module _ (m : List ℕ) (c : Record) (x y k : ℕ) where
 -- the answer of the rules that an answer stands for
 abbrev outOf : Answer → Out
 outOf Success = success
-outOf (Mismatch Other) = mismatch
-outOf (Mismatch KindOrder) = kindOrder
+outOf Mismatch = mismatch
 outOf Refused12 = refused12
 outOf Refused13 = refused13
 
@@ -98,7 +96,6 @@ outOf Refused13 = refused13
 out-of : (o : Out) → Ended o → outOf (answerIs o) ≡ o
 out-of success h = refl
 out-of mismatch h = refl
-out-of kindOrder h = refl
 out-of refused12 h = refl
 out-of refused13 h = refl
 out-of dry h = absurd h
@@ -221,31 +218,28 @@ module _ (m w : List ℕ) (c : Record) (x y : TypeId) (r : Answer) (p : Solved m
     };
   }
 
-  -- the error of an equation that failed with the CAUSE k
-  failing : {s : State} (e : Encodes m c s) (k : ℕ) (err : TypingError) (m′ : List ℕ) (d : Record) → k ≡ answerNumber ((result s) .0) → Fails w c (x .0) (y .0) k err m′ (equated.Failed d) → Fits (emitted (withCause err k) (after s)) → Encodes m′ d (emitted (withCause err k) (after s))
+  -- the error of an equation that failed
+  failing : {s : State} (e : Encodes m c s) (err : TypingError) (m′ : List ℕ) (d : Record) → answerNumber mismatch ≡ answerNumber ((result s) .0) → Fails w c (x .0) (y .0) err m′ (equated.Failed d) → Fits (emitted (caused err mismatch) (after s)) → Encodes m′ d (emitted (caused err mismatch) (after s))
   unfolding error run raised
-  failing {s} e k err m′ d q fails f =
-      let g : Fits (after s) = fits-before (withCause err k) (after s) f in
-      fails (omega (arith, e .equations, g .equations)) .ran (after s) (noted e g (logWritten w c (x .0) (y .0) k) (oneEquation c) k (λ h. (refl, refl)) q) f .1
+  failing {s} e err m′ d q fails f =
+      let g : Fits (after s) = fits-before (caused err mismatch) (after s) f in
+      fails (omega (arith, e .equations, g .equations)) .ran (after s) (noted e g (logWritten w c (x .0) (y .0) (answerNumber mismatch)) (oneEquation c) (answerNumber mismatch) (λ h. (refl, refl)) q) f .1
+
+  -- the equation failed
+  pub equation-mismatch : r ≡ Mismatch → (n : ℕ) (err : TypingError) (m′ : List ℕ) (z : Equated) → Fails w c (x .0) (y .0) err m′ z → Equates m c m′ n z (equation n (x .0) (y .0) err)
+  equation-mismatch q n err m′ (equated.Met d) h = absurd h
+  equation-mismatch q n err m′ (equated.Failed d) h = record {
+    by = record {
+      ran = λ s e f. let g : run (equation n (x .0) (y .0) err) s ≡ (some false, emitted (caused err mismatch) (after s)) = rw q at (reacts e n err) in
+          rw g (refl, failing e err m′ d (numbered s e q) h (rw g at f));
+    };
+  }
+  equation-mismatch q n err m′ (equated.Refused a d) h = absurd h
 
   module _ (k n : ℕ) (err : TypingError) (is : (s : State) → Encodes m c s → k ≡ answerNumber ((result s) .0)) where
-    -- the equation failed with the CAUSE k
-    failed-by : ((s : State) → Encodes m c s → run (equation n (x .0) (y .0) err) s ≡ (some false, emitted (withCause err k) (after s))) → (m′ : List ℕ) (z : Equated) → Fails w c (x .0) (y .0) k err m′ z → Equates m c m′ n z (equation n (x .0) (y .0) err)
-    failed-by g m′ (equated.Met d) h = absurd h
-    failed-by g m′ (equated.Failed d) h = record { by = record { ran = λ s e f. rw (g s e) (refl, failing e k err m′ d (is s e) h (rw (g s e) at f)) } }
-    failed-by g m′ (equated.Refused a d) h = absurd h
-
     -- the equation is refused with k
     refused-by : ((s : State) → Encodes m c s → run (equation n (x .0) (y .0) err) s ≡ (none, refused k n (after s))) → (m′ : List ℕ) (d : Record) → Logs w c (x .0) (y .0) k m′ d → Equates m c m′ n (equated.Refused k d) (equation n (x .0) (y .0) err)
     refused-by g m′ d logs = record { by = record { stopped = λ s e f. rw (g s e) (refl, stops-with k n (after s), encodes-refused k n (noted e (fits-refused k n (after s) (rw (g s e) at f)) m′ d k logs (is s e))) } }
-
-  -- the equation failed with CAUSE 1
-  pub equation-other : r ≡ Mismatch Other → (n : ℕ) (err : TypingError) (m′ : List ℕ) (z : Equated) → Fails w c (x .0) (y .0) 1 err m′ z → Equates m c m′ n z (equation n (x .0) (y .0) err)
-  equation-other q n err = failed-by 1 n err (λ s e. numbered s e q) (λ s e. rw q at (reacts e n err))
-
-  -- the equation failed with CAUSE 2
-  pub equation-order : r ≡ Mismatch KindOrder → (n : ℕ) (err : TypingError) (m′ : List ℕ) (z : Equated) → Fails w c (x .0) (y .0) 2 err m′ z → Equates m c m′ n z (equation n (x .0) (y .0) err)
-  equation-order q n err = failed-by 2 n err (λ s e. numbered s e q) (λ s e. rw q at (reacts e n err))
 
   -- the equation is refused with 12
   pub equation-12 : r ≡ Refused12 → (n : ℕ) (err : TypingError) (m′ : List ℕ) (d : Record) → Logs w c (x .0) (y .0) 12 m′ d → Equates m c m′ n (equated.Refused 12 d) (equation n (x .0) (y .0) err)
@@ -258,5 +252,5 @@ module _ (m w : List ℕ) (c : Record) (x y : TypeId) (r : Answer) (p : Solved m
 -- ── the error of a failed equation ──
 
 -- the equation is logged and its error emitted
-pub failed-fails : (m w m′ : List ℕ) (c d z : Record) (x y k : ℕ) (err row : TypingError) → row ≡ withCause err k → Logs m c x y k w d → Runs w d m′ z (error row) tt → Fails m c x y k err m′ (equated.Failed z)
-failed-fails m w m′ c d z x y k err row q logs runs h = let g = logs h in rw (g .0, g .1, q) at runs
+pub failed-fails : (m w m′ : List ℕ) (c d z : Record) (x y : ℕ) (err row : TypingError) → row ≡ caused err mismatch → Logs m c x y (answerNumber mismatch) w d → Runs w d m′ z (error row) tt → Fails m c x y err m′ (equated.Failed z)
+failed-fails m w m′ c d z x y err row q logs runs h = let g = logs h in rw (g .0, g .1, q) at runs

@@ -4,6 +4,7 @@ use mathlib.Core.List.{List, [], _∷_}
 use mathlib.Core.Option.{none}
 use Prim.Native.Nat.{ℕ, _+_, _*_, _<_}
 use lib.ListN.{getD, set}
+use Rattle.theory.specs.Rules.{mismatch}
 use Rattle.theory.specs.Program.{clip}
 use Rattle.type_table.specs.declared.Counts.{Counts}
 use Rattle.type_table.specs.Made.{Counting, pushed, pushIn}
@@ -12,8 +13,8 @@ use Rattle.record.specs.declared.TypingError.{TypingError}
 use Rattle.record.specs.declared.Equated.{Equated}
 use Rattle.record.specs.declared.Equated.the-variants as equated
 use Rattle.record.specs.Own.{log-at, rawsOf}
-use Rattle.record.specs.Steps.{orNil, error}
-use Rattle.record.specs.Encodes.{Runs}
+use Rattle.record.specs.Steps.{orNil, caused, error}
+use Rattle.record.specs.Encodes.{answerNumber, Runs}
 
 -- ── types ──
 
@@ -42,12 +43,8 @@ logWritten m c x y a =
 abbrev pub Logs : List ℕ → Record → ℕ → ℕ → ℕ → List ℕ → Record → Type 0
 Logs m c x y a m′ d = c .equations < 65535 → (m′ ≡ logWritten m c x y a) × (d ≡ oneEquation c)
 
--- an error with a CAUSE
-abbrev pub withCause : TypingError → ℕ → TypingError
-withCause e k = record { kind = e .kind; cause = k; at = e .at; second = e .second; a = e .a; b = e .b; c = e .c }
-
--- an equation is logged with the CAUSE k, and the error with it is emitted
-abbrev pub Fails : List ℕ → Record → ℕ → ℕ → ℕ → TypingError → List ℕ → Equated → Type 0
-Fails m c x y k e m′ (equated.Met d) = ⊥
-Fails m c x y k e m′ (equated.Failed d) = c .equations < 65535 → Runs (logWritten m c x y k) (oneEquation c) m′ d (error (withCause e k)) tt
-Fails m c x y k e m′ (equated.Refused n d) = ⊥
+-- a mismatch is logged, and its error emitted
+abbrev pub Fails : List ℕ → Record → ℕ → ℕ → TypingError → List ℕ → Equated → Type 0
+Fails m c x y e m′ (equated.Met d) = ⊥
+Fails m c x y e m′ (equated.Failed d) = c .equations < 65535 → Runs (logWritten m c x y (answerNumber mismatch)) (oneEquation c) m′ d (error (caused e mismatch)) tt
+Fails m c x y e m′ (equated.Refused n d) = ⊥

@@ -3,9 +3,9 @@ use mathlib.Core.Path.{_≡_}
 use mathlib.Core.List.{List, [], _∷_}
 use mathlib.Core.Option.{none, some}
 use mathlib.Core.Bool.{Bool, true, false}
-use Prim.Native.Nat.{ℕ, suc, _+_, _*_, _≤_, _<_}
+use Prim.Native.Nat.{ℕ, _+_, _*_, _≤_}
 use lib.ListN.{length}
-use Rattle.theory.specs.Rules.{Shape, base, var, arr, ref, fn, fun, lam, err, div, Out, success, mismatch, kindOrder, refused12, refused13, dry}
+use Rattle.theory.specs.Rules.{Shape, base, var, arr, ref, fn, fun, lam, err, div, Out, success, mismatch, refused12, refused13, dry}
 use Rattle.theory.specs.Program.{Equation, run}
 use Rattle.type_table.specs.Memory.{cell, most-types, most-vars, most-inputs}
 use Rattle.type_table.specs.Sound.{Sound, stateOf}
@@ -43,7 +43,6 @@ inputTotal (s ∷ l) = inputCount s + inputTotal l
 abbrev pub answerNumber : Out → ℕ
 answerNumber success = 0
 answerNumber mismatch = 1
-answerNumber kindOrder = 2
 answerNumber refused12 = 12
 answerNumber refused13 = 13
 answerNumber dry = 12

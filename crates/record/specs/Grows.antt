@@ -3,15 +3,15 @@ use mathlib.Core.Path.{_≡_, refl}
 use mathlib.Core.List.{List, [], _∷_, _++_}
 use mathlib.Core.Option.{Option, none, some}
 use mathlib.Core.Bool.{Bool, true, false}
-use Prim.Native.Nat.{ℕ, suc, _+_, _≤_}
+use Prim.Native.Nat.{ℕ, _+_, _≤_}
 use native.Mathlib.Omega.{arith}
 use lib.ListN.{length, length-append}
-use Rattle.theory.specs.Rules.{Shape, var, Kind, Out, success, mismatch, kindOrder, refused12, refused13, dry, Res}
-use Rattle.theory.specs.Program.{St, Prog, done, refuse, draw, intern, equate, emit, mark, read, write, clip, firstEqual, sane, drawn, appended, emitted, written, refused, marking, raised, pooled, internIf, interned, solved, react, run, _>>=_, goOn, run-bind}
+use Rattle.theory.specs.Rules.{Shape, var, Kind, Out, success, mismatch, refused12, refused13, dry, Res}
+use Rattle.theory.specs.Program.{done, refuse, draw, intern, equate, emit, mark, read, write, clip, firstEqual, sane, drawn, appended, emitted, written, refused, marking, raised, pooled, internIf, interned, solved, react, run, _>>=_, goOn, run-bind}
 use Rattle.record.specs.declared.TypingError.{TypingError}
 use Rattle.record.specs.Own.{Own}
 use Rattle.record.specs.Steps.{State, Walk}
-use Rattle.record.specs.Encodes.{inputCount, inputTotal, Fits}
+use Rattle.record.specs.Encodes.{inputTotal, Fits}
 
 -- the tables of t are no shorter than those of s
 pub record Grown (s t : State) : Type 0 where
@@ -117,7 +117,6 @@ raised-grown e g r s = record { rows = omega arith; vars = omega arith; inputs =
 react-grown : {A : Type 0} (p : ℕ) (o : Out) (f : Out → TypingError) (k : Bool → State → Option A × State) (s : State) → ((c : Bool) (t : State) → Grown t ((k c t) .1)) → Grown s ((react p o f k s) .1)
 react-grown p success f k s h = h true s
 react-grown p mismatch f k s h = grown-trans (emitted-grown (f mismatch) s) (h false (emitted (f mismatch) s))
-react-grown p kindOrder f k s h = grown-trans (emitted-grown (f kindOrder) s) (h false (emitted (f kindOrder) s))
 react-grown p refused12 f k s h = refused-grown 12 p s
 react-grown p refused13 f k s h = refused-grown 13 p s
 react-grown p dry f k s h = refused-grown 12 p s

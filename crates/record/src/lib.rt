@@ -29,7 +29,6 @@ use type_table::Origin;
 use type_table::TypeId;
 use type_table::VarId;
 use unify::Answer;
-use unify::Cause;
 
 // The most nodes, and the most errors: three for each node.
 pub const MOST_NODES: u16 = 1024;
@@ -367,9 +366,9 @@ pub enum Equated {
     Refused(u8, Record),
 }
 
-// The error of a failed equation.
-fn failed(m: &mut [u16], c: Record, x: TypeId, y: TypeId, cause: u16, e: TypingError) -> Equated
-    ensures { λ r. ⌜ Fails (now (m .entry)) c (x .0) (y .0) cause e (now (m .exit)) r ⌝ }
+// A mismatch, logged, and its error with CAUSE 1.
+fn failed(m: &mut [u16], c: Record, x: TypeId, y: TypeId, e: TypingError) -> Equated
+    ensures { λ r. ⌜ Fails (now (m .entry)) c (x .0) (y .0) e (now (m .exit)) r ⌝ }
 {
     let k = e.kind;
     let at = e.at;
@@ -377,13 +376,13 @@ fn failed(m: &mut [u16], c: Record, x: TypeId, y: TypeId, cause: u16, e: TypingE
     let a = e.a;
     let b = e.b;
     let third = e.c;
-    let d = log(m, c, x, y, cause);
+    let d = log(m, c, x, y, 1);
     let r = emit(
         m,
         d,
         TypingError {
             kind: k,
-            cause: cause,
+            cause: 1,
             at: at,
             second: second,
             a: a,
@@ -394,7 +393,7 @@ fn failed(m: &mut [u16], c: Record, x: TypeId, y: TypeId, cause: u16, e: TypingE
     Equated::Failed(r)
 }
 
-// Raises the equation of the rows x, expected, and y, got; a mismatch emits the error e with its cause.
+// Raises the equation of the rows x, expected, and y, got; a mismatch emits the error e.
 pub fn equate(m: &mut [u16], c: Record, x: TypeId, y: TypeId, e: TypingError) -> Equated
     ensures { λ r. ⌜ ((n : ℕ) → Equates (now (m .entry)) c (now (m .exit)) n r (equation n (x .0) (y .0) e)) ⌝ }
 {
@@ -404,10 +403,7 @@ pub fn equate(m: &mut [u16], c: Record, x: TypeId, y: TypeId, e: TypingError) ->
             let r = log(m, c, x, y, 0);
             Equated::Met(r)
         }
-        Answer::Mismatch(k) => match k {
-            Cause::Other => failed(m, c, x, y, 1, e),
-            Cause::KindOrder => failed(m, c, x, y, 2, e),
-        },
+        Answer::Mismatch => failed(m, c, x, y, e),
         Answer::Refused12 => {
             let r = log(m, c, x, y, 12);
             Equated::Refused(12, r)

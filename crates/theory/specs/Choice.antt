@@ -6,7 +6,7 @@ use Prim.Native.Nat.{ℕ}
 use native.Mathlib.Decide.{ℕ-discrete}
 use lib.Dec.{eqb}
 use mathlib.Core.List.{[]}
-use Rattle.theory.specs.Rules.{Base, bool, nil, float, double, uint, int, inst, Shape, base, var, arr, ref, fn, fun, lam, err, div, base-discrete, width-discrete, success, mismatch, same, compare, left, right, differ, head, baseHead, compared, choose, Act, act, go, param-head, array-head, error-head, diverges-head, infer-head, lambda-head}
+use Rattle.theory.specs.Rules.{Base, bool, nil, float, double, uint, int, inst, Shape, base, var, arr, ref, fn, fun, lam, err, div, base-discrete, width-discrete, success, mismatch, same, compare, left, right, differ, head, baseHead, compared, choose, roles, Act, act, go, param-head, array-head, error-head, diverges-head, infer-head, lambda-head}
 use Rattle.theory.specs.Basics.{eqb-same}
 
 -- a head that step 1 compares is none that another step names
@@ -50,9 +50,9 @@ pub choose-array-base : (b : Base) → choose array-head (baseHead b) ≡ differ
 unfolding choose
 choose-array-base b = let p = base-compared b in rw (p .4, p .2, p .5, p .3)
 
--- what two base types ask for
+-- what two base types ask for, the roles as they are
 abbrev pub actOfBases : ℕ → ℕ → Base → Base → Act
-actOfBases x y b c = act x y (base b) (base c) (choose (baseHead b) (baseHead c))
+actOfBases x y b c = act x y (base b) (base c) (roles false (choose (baseHead b) (baseHead c)))
 
 -- success where they are equal, else mismatch
 abbrev pub ByEquality : Base → Base → Act → Type 0
@@ -63,11 +63,11 @@ pub act-bases : (x y : ℕ) (b c : Base) → ByEquality b c (actOfBases x y b c)
 unfolding act
 act-bases x y b c = rw (choose-bases (baseHead b) (baseHead c) (base-compared b) (base-compared c)) (by (base-discrete width-discrete ℕ-discrete b c) refl)
   where
-    by : (d : Dec (b ≡ c)) → base-discrete width-discrete ℕ-discrete b c ≡ d → ByEquality b c (act x y (base b) (base c) (cond (eqb (baseHead b) (baseHead c)) compare differ))
+    by : (d : Dec (b ≡ c)) → base-discrete width-discrete ℕ-discrete b c ≡ d → ByEquality b c (act x y (base b) (base c) (roles false (cond (eqb (baseHead b) (baseHead c)) compare differ)))
     by (yes e) p = inl (e, rw (ap baseHead e, eqb-same (baseHead c), p))
     by (no n) p = inr (n, by′ (eqb (baseHead b) (baseHead c)))
       where
-        by′ : (k : Bool) → act x y (base b) (base c) (cond k compare differ) ≡ go [] mismatch
+        by′ : (k : Bool) → act x y (base b) (base c) (roles false (cond k compare differ)) ≡ go [] mismatch
         by′ true = rw p
         by′ false = refl
 

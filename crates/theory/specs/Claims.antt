@@ -6,7 +6,7 @@ use mathlib.Core.Option.{Option, none, some}
 use mathlib.Core.Bool.{true, false}
 use Prim.Native.Nat.{ℕ, _<_}
 use lib.ListN.{length}
-use Rattle.theory.specs.Rules.{Shape, Kind, success, kindOrder, refused13, Mem, Pair, row, unify}
+use Rattle.theory.specs.Rules.{Shape, Kind, success, refused13, Mem, Pair, row, unify}
 use Rattle.theory.specs.Program.{Equation, St, Prog, madeOf, equalRows, firstEqual, sane, interned, solve, run}
 use Rattle.theory.specs.Table.{table, more, outcome, stated, table-holds, more-holds, poolRows, poolLines, pool-holds}
 use Rattle.theory.specs.Basics.{All}
@@ -28,7 +28,7 @@ pub equation-success : (rows : List Shape) (kinds : List Kind) (lower : Lower ro
     r .0 ≡ success → Fair rows (r .1 .binds) × ((w : Way) → Kinded kinds w → Agrees rows (r .1 .binds) w ↔ (Agrees rows (m .binds) w × (den rows w e ≡ den rows w g)))
 equation-success = success-exact
 
--- a mismatch whose cause is not kind order, or 12: under no way that agrees with the bindings do both sides become the same type
+-- a mismatch, or 12: under no way that agrees with the bindings do both sides become the same type
 pub equation-failed : (rows : List Shape) (kinds : List Kind) (lower : Lower rows) (m : Mem) (e g : ℕ) → Plain rows e → Plain rows g → Fair rows (m .binds)
     → Failed ((solve rows kinds m e g) .0) → (w : Way) → Kinded kinds w → Agrees rows (m .binds) w → den rows w e ≡ den rows w g → ⊥
 equation-failed = failed-none
@@ -69,21 +69,21 @@ module _ {X Er A : Type 0} (rows : List Shape) (own : X) (p : Prog X Er A) (test
   demand-3-without-error = demand-yes final (track p (start rows own) (start-track rows own test))
 
   -- whatever the answer, the sides so up to and including the first equation q that fails or is refused 12: no way meets all the
-  -- equations up to and including that one, unless its cause is kind order. The log has the newest first
+  -- equations up to and including that one. The log has the newest first
   pub demand-3-first-failure : (after before : List Equation) (q : Equation) → final .log ≡ after ++ q ∷ before → Failed (q .answer) → All Went before → All (Sided (final .rows)) (q ∷ before)
       → (w : Way) → Kinded (final .kinds) w → All (Meets (final .rows) w) (q ∷ before) → ⊥
   demand-3-first-failure = demand-no final (track p (start rows own) (start-track rows own test))
 
 -- ── 5. a list of equations by itself ──
 
--- nothing bound before: success only with a common solution, the solutions being the ways that agree with the bindings; a mismatch of
--- cause 1, or 12, only with none; cause 2 and 13 say nothing; the steps never run out
+-- nothing bound before: success only with a common solution, the solutions being the ways that agree with the bindings; a mismatch,
+-- or 12, only with none; 13 says nothing; the steps never run out
 pub list-solvable : (rows : List Shape) (kinds : List Kind) (ps : List Pair) (m : Mem) → Fresh rows kinds m → All (Posed rows) ps → VerdictOf rows kinds (λ w. All (Solves rows w) ps) (solves rows kinds ps m)
 list-solvable = solvable
 
--- cause 2 and 13 apart: success exactly with a common solution
+-- 13 apart: success exactly with a common solution
 pub list-exactly : (rows : List Shape) (kinds : List Kind) (ps : List Pair) (m : Mem) → Fresh rows kinds m → All (Posed rows) ps → let o = (solves rows kinds ps m) .0 in
-    o ≢ kindOrder → o ≢ refused13 → (o ≡ success) ↔ ((w : Way) × Kinded kinds w × All (Solves rows w) ps)
+    o ≢ refused13 → (o ≡ success) ↔ ((w : Way) × Kinded kinds w × All (Solves rows w) ps)
 list-exactly = solvable-exactly
 
 -- ── 6. pooling by value, first made first ──

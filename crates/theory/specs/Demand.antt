@@ -11,7 +11,7 @@ use native.Mathlib.Decide.{decLt}
 use lib.ListN.{length, length-set, length-append, List·getD-append, List·getD-eq-default}
 use lib.Seq.{getD-set-same}
 use lib.Dec.{ltb}
-use Rattle.theory.specs.Rules.{nil, Shape, base, var, div, Kind, regular, Out, success, mismatch, kindOrder, refused12, refused13, dry, Mem, Res, row, kind, kids, asVar, bound, marked, succs, next, act, unify}
+use Rattle.theory.specs.Rules.{nil, Shape, base, var, div, Kind, regular, Out, success, mismatch, refused12, refused13, dry, Mem, Res, row, kind, kids, asVar, bound, marked, succs, next, act, unify}
 use Rattle.theory.specs.Program.{Equation, St, Prog, done, refuse, draw, intern, equate, emit, mark, read, write, allBelow, noVar, sane, firstEqual, clip, drawn, appended, emitted, written, refused, marking, raised, pooled, internIf, interned, solve, solved, react, run}
 use Rattle.theory.specs.Basics.{All, all-map, all-map2, clash, and-both, ltb-true}
 use Rattle.theory.specs.Ways.{Way, tyFits, Kinded, Plain, plain-base, plain-var, plain-array, den, Agrees, PlainBound, Inside, Sided, Meets, Went, Failed, NoWay}
@@ -284,7 +284,6 @@ module _ {X Er : Type 0} where
   unfolding raised emitted refused
   react-track p e g s r t d success q f k h = h true (raised e g r s) (record { tables = d; clean = λ i j. (q, t .clean i j) })
   react-track p e g s r t d mismatch q f k h = h false (emitted (f mismatch) (raised e g r s)) (record { tables = d; clean = λ i j. clash (cc) })
-  react-track p e g s r t d kindOrder q f k h = h false (emitted (f kindOrder) (raised e g r s)) (record { tables = d; clean = λ i j. clash (cc) })
   react-track p e g s r t d refused12 q f k h = record { tables = d; clean = λ i j. clash (cc) }
   react-track p e g s r t d refused13 q f k h = record { tables = d; clean = λ i j. clash (cc) }
   react-track p e g s r t d dry q f k h = record { tables = d; clean = λ i j. clash (cc) }

@@ -9,7 +9,7 @@ use Prim.Native.Nat.{ℕ, suc, zero, _≤_}
 use native.Mathlib.Omega.{arith}
 use lib.ListN.{length, take}
 use lib.Dec.{eqb}
-use Rattle.theory.specs.Rules.{Base, bool, nil, float, double, uint, int, inst, Shape, base, var, arr, ref, fn, fun, lam, err, div, Kind, Out, success, mismatch, kindOrder, refused12, refused13, dry, Mem, Pair, Res, Step, same, compare, left, right, down, swap, differ, Act, go, at, head, baseHead, asVar, row, kind, fits, bound, zip, split, atVar, act, choose, compared}
+use Rattle.theory.specs.Rules.{Base, bool, nil, float, double, uint, int, inst, Shape, base, var, arr, ref, fn, fun, lam, err, div, Kind, Out, success, mismatch, refused12, refused13, dry, Mem, Pair, Res, Step, same, compare, left, right, down, swap, differ, Act, go, at, head, baseHead, asVar, row, kind, fits, exchanged, roles, bound, zip, split, atVar, act, choose, compared}
 use Rattle.theory.specs.Rules.{param-head, array-head, error-head, diverges-head, infer-head, lambda-head, pass, isSame, chase, heed, other, suits, each, perform, move, unify, onward, marked, signed}
 use Rattle.theory.specs.Basics.{All, all-map, clash, and-both}
 use Rattle.theory.specs.Meaning.{as-var}
@@ -100,7 +100,6 @@ module _ (rows : List Shape) (kinds : List Kind) (f g : Mem → ℕ → ℕ → 
       by : (q : Out) (c : Mem) → ((m′ : Mem) → each rows kinds f ps o m′ ≡ each rows kinds g ps o m′) → onward q c (λ m′. each rows kinds f ps o m′) ≡ onward q c (λ m′. each rows kinds g ps o m′)
       by success c k = k c
       by mismatch c k = refl
-      by kindOrder c k = refl
       by refused12 c k = refl
       by refused13 c k = refl
       by dry c k = refl
@@ -302,13 +301,15 @@ module _ (rows : List Shape) (kinds : List Kind) where
       at-right none e = tt
       at-right (some v) e = let q = as-var (row rows y) v e in rw (q, called-var (head (row rows x))) (λ r m. ih l m r x (held-var rows l y x v q (held-sym rows l x y held) r))
 
-      step-fine : (p : Step) → choose (head (row rows x)) (head (row rows y)) ≡ p → Fine p
+      -- whether the roles are exchanged or not
+      step-fine : (c : Bool) (p : Step) → choose (head (row rows x)) (head (row rows y)) ≡ p → Fine (roles c p)
       unfolding act
-      step-fine same e = tt
-      step-fine compare e = tt
-      step-fine left e = at-left (asVar (row rows x)) refl
-      step-fine right e = at-right (asVar (row rows y)) refl
-      step-fine down e = by (choose-down (head (row rows x)) (head (row rows y)) e)
+      step-fine c same e = tt
+      step-fine c compare e = tt
+      step-fine true left e = at-right (asVar (row rows y)) refl
+      step-fine false left e = at-left (asVar (row rows x)) refl
+      step-fine c right e = at-right (asVar (row rows y)) refl
+      step-fine c down e = by (choose-down (head (row rows x)) (head (row rows y)) e)
         where
           arrays : (a b : ℕ) → row rows x ≡ arr a → row rows y ≡ arr b → Fine down
           arrays a b p q = rw (p, q) (split-hands (Same l false) (a ∷ []) (b ∷ []) (λ m. ih l m a b (held-element rows l x y a b p q held), tt))
@@ -327,7 +328,7 @@ module _ (rows : List Shape) (kinds : List Kind) where
               let p = head-function (row rows x) (b .0) in
               let q = head-lambda (row rows y) (b .1) in
               parts (p .0) (p .1) (q .0) (q .1) (p .2) (q .2) (p .3) (q .3)
-      step-fine swap e =
+      step-fine c swap e =
           let b = and-both (eqb (head (row rows x)) lambda-head) (eqb (head (row rows y)) param-head) (choose-swap (head (row rows x)) (head (row rows y)) e) in
           let p = head-function (row rows y) (b .1) in
           let q = head-lambda (row rows x) (b .0) in
@@ -335,7 +336,7 @@ module _ (rows : List Shape) (kinds : List Kind) where
         where
           parts : (s o k t : ℕ) (i j : List ℕ) → row rows y ≡ fun s o i → row rows x ≡ lam k t j → Fine swap
           parts s o k t i j p q = rw (p, q) (split-hands (Same l true) (o ∷ i) (t ∷ j) (below-same l (o ∷ i) (t ∷ j) (held-parts rows l y x s o k t i j p q (held-sym rows l x y held))))
-      step-fine differ e = tt
+      step-fine c differ e = tt
 
   -- a level that is enough for a pair changes nothing, whatever the bindings and marks
   held-enough : (n l : ℕ) (m : Mem) (x y : ℕ) → Held rows l x y → bounded rows kinds l n m x y ≡ unify rows kinds n m x y
@@ -343,7 +344,7 @@ module _ (rows : List Shape) (kinds : List Kind) where
   held-enough zero l m x y h = refl
   held-enough (suc n) l m x y h =
       perform-ext rows kinds (handOn (λ k. bounded rows kinds k n) l (called (head (row rows x)) (head (row rows y)))) (unify rows kinds n) m (move rows kinds x y)
-      (step-fine n (λ l′ m′ x′ y′ h′. held-enough n l′ m′ x′ y′ h′) l x y h (choose (head (row rows x)) (head (row rows y))) refl)
+      (step-fine n (λ l′ m′ x′ y′ h′. held-enough n l′ m′ x′ y′ h′) l x y h (exchanged kinds (asVar (row rows x)) (asVar (row rows y))) (choose (head (row rows x)) (head (row rows y))) refl)
 
   -- functions at most d deep: with d levels the answer, the bindings and the marks are those of `unify`, whatever the bindings and marks before, the
   -- lambdas and the number of steps

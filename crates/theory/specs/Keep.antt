@@ -10,7 +10,7 @@ use native.Mathlib.Omega.{arith}
 use native.Mathlib.Nat.{mul-le-mul-right}
 use lib.ListN.{length, set, take, length-set}
 use lib.Dec.{eqb}
-use Rattle.theory.specs.Rules.{Shape, Kind, Out, success, mismatch, kindOrder, refused12, refused13, dry, Mem, Pair, Res, Step, same, compare, left, right, down, swap, differ, go, at, kids, asVar, row, kind, fits, cause, bound, isRegular, alike, zip, split, atVar, act, succs, next, head, choose}
+use Rattle.theory.specs.Rules.{Shape, Kind, Out, success, mismatch, refused12, refused13, dry, Mem, Pair, Res, Step, same, compare, left, right, down, swap, differ, go, at, kids, asVar, row, kind, fits, exchanged, roles, bound, alike, zip, split, atVar, act, succs, next, head, choose}
 use Rattle.theory.specs.Rules.{Found, free, ring, inside, lost, seek, passTo, pass, bind, isSame, settle, chase, heed, other, suits, each, perform, unify, onward, marked, signed}
 use Rattle.theory.specs.Program.{fuel, solve}
 use Rattle.theory.specs.Basics.{All, all-map, all-map2}
@@ -42,7 +42,6 @@ opens-set (o ∷ b) (suc v) z h e = omega (arith, opens-set b v z (omega arith) 
 abbrev pub Ended : Out → Type 0
 Ended success = Unit {0}
 Ended mismatch = Unit {0}
-Ended kindOrder = Unit {0}
 Ended refused12 = Unit {0}
 Ended refused13 = Unit {0}
 Ended dry = ⊥
@@ -75,14 +74,6 @@ take-all P (suc n) (p ∷ l) h = (h .0, take-all P n l (h .1))
 kids-next : (P : ℕ → Type 0) (b : List (Option ℕ)) (s : Shape) (o : Option ℕ) → asVar s ≡ o → All P (succs b s o) → All P (kids s)
 kids-next P b s none e h = h
 kids-next P b s (some v) e h = rw (as-var s v e) tt
-
-cause-ended : (kinds : List Kind) (o : Option ℕ) → Ended (cause kinds o)
-cause-ended kinds none = tt
-cause-ended kinds (some u) = by (isRegular (kind kinds u))
-  where
-    by : (c : Bool) → Ended (cond c kindOrder mismatch)
-    by true = tt
-    by false = tt
 
 module _ (rows : List Shape) (kinds : List Kind) where
   -- the steps that one open variable may cost
@@ -138,7 +129,6 @@ module _ (rows : List Shape) (kinds : List Kind) where
           by : (q : Out) (c : Mem) → Kept m′ q c → ((m″ : Mem) → Kept m success m″ → KeptBy m (each rows kinds rec ps o m″)) → KeptBy m (onward q c (λ m″. each rows kinds rec ps o m″))
           by success c j f = f c (kept-trans m m′ c success success k j)
           by mismatch c j f = kept-trans m m′ c success mismatch k j
-          by kindOrder c j f = kept-trans m m′ c success kindOrder k j
           by refused12 c j f = kept-trans m m′ c success refused12 k j
           by refused13 c j f = kept-trans m m′ c success refused13 k j
           by dry c j f = absurd (j .ended)
@@ -171,7 +161,7 @@ module _ (rows : List Shape) (kinds : List Kind) where
 
       suits-kept : (c : Bool) → fits kinds (kind kinds v) (row rows z) ≡ c → KeptBy m (suits rows kinds rec m v z c)
       suits-kept true e = other-kept e (isSame v (asVar (row rows z)))
-      suits-kept false e = kept-same m (cause kinds (asVar (row rows z))) good (cause-ended kinds (asVar (row rows z)))
+      suits-kept false e = kept-same m mismatch good tt
 
     module _ (m : Mem) (x y : ℕ) (given : Ready (suc n) (m .binds) x y) where
       -- the row q ranks below the row p and stands in the table
@@ -226,7 +216,7 @@ module _ (rows : List Shape) (kinds : List Kind) where
   pub kept : (n : ℕ) (m : Mem) (x y : ℕ) → Ready n (m .binds) x y → KeptBy m (unify rows kinds n m x y)
   unfolding unify
   kept zero m x y given = absurd (omega (arith, given .enough))
-  kept (suc n) m x y given = step-kept n (unify rows kinds n) (λ m′ x′ y′ r. kept n m′ x′ y′ r) m x y given (choose (head (row rows x)) (head (row rows y)))
+  kept (suc n) m x y given = step-kept n (unify rows kinds n) (λ m′ x′ y′ r. kept n m′ x′ y′ r) m x y given (roles (exchanged kinds (asVar (row rows x)) (asVar (row rows y))) (choose (head (row rows x)) (head (row rows y))))
 
   -- so with the steps that a program gives each equation
   pub solve-kept : (m : Mem) (e g : ℕ) → Good rows kinds (m .binds) → e < length rows → g < length rows → KeptBy m (solve rows kinds m e g)

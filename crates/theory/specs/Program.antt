@@ -6,7 +6,7 @@ use mathlib.Core.Bool.{Bool, true, false, cond, _&&_}
 use Prim.Native.Nat.{ℕ, suc, _+_, _*_}
 use lib.ListN.{length, set}
 use lib.Dec.{eqb, ltb}
-use Rattle.theory.specs.Rules.{Base, bool, nil, float, double, uint, int, inst, Shape, base, var, arr, ref, fn, fun, lam, err, div, Kind, Out, success, mismatch, kindOrder, refused12, refused13, dry, Mem, Pair, Res, head, kids, asVar, unify}
+use Rattle.theory.specs.Rules.{Base, bool, nil, float, double, uint, int, inst, Shape, base, var, arr, ref, fn, fun, lam, err, div, Kind, Out, success, mismatch, refused12, refused13, dry, Mem, Pair, Res, head, kids, asVar, unify}
 
 -- ── made types ──
 
@@ -165,7 +165,6 @@ module _ {X Er : Type 0} where
   abbrev pub react : {A : Type 0} → ℕ → Out → (Out → Er) → (Bool → St X Er → Option A × St X Er) → St X Er → Option A × St X Er
   react p success f k s = k true s
   react p mismatch f k s = k false (emitted (f mismatch) s)
-  react p kindOrder f k s = k false (emitted (f kindOrder) s)
   react p refused12 f k s = (none, refused 12 p s)
   react p refused13 f k s = (none, refused 13 p s)
   react p dry f k s = (none, refused 12 p s)
@@ -205,7 +204,6 @@ module _ {X Er : Type 0} where
       → ((c : Bool) (s′ : St X Er) → h c s′ ≡ goOn (k c s′) g) → react p o f h s ≡ goOn (react p o f k s) g
   react-bind p success f k g h s e = e true s
   react-bind p mismatch f k g h s e = e false (emitted (f mismatch) s)
-  react-bind p kindOrder f k g h s e = e false (emitted (f kindOrder) s)
   react-bind p refused12 f k g h s e = refl
   react-bind p refused13 f k g h s e = refl
   react-bind p dry f k g h s e = refl

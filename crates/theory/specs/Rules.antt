@@ -143,15 +143,14 @@ choose e g =
 
 -- ── what a step asks for ──
 
--- success; a mismatch of cause 1; one of cause 2 (kind order); refused 12; refused 13; out of steps (never of sound tables: `Keep.kept`)
+-- success; a mismatch, of cause 1; refused 12; refused 13; out of steps (never of sound tables: `Keep.kept`)
 pub data Out : Type 0 where
-  success mismatch kindOrder refused12 refused13 dry : Out
+  success mismatch refused12 refused13 dry : Out
 
 -- document 01's numbers of a result: Check's answer, and the CAUSE of an error row
 abbrev pub numbersOf : Out → ℕ × ℕ
 numbersOf success = (0, 0)
 numbersOf mismatch = (0, 1)
-numbersOf kindOrder = (0, 2)
 numbersOf refused12 = (12, 0)
 numbersOf refused13 = (13, 0)
 numbersOf dry = (12, 0)
@@ -296,10 +295,29 @@ fits kinds k (lam n o i) = isRegular k
 fits kinds k err = isRegular k
 fits kinds k div = isRegular k
 
--- the cause of a failed kind test: 2 (kind order) against a Regular variable, else 1
-abbrev pub cause : List Kind → Option ℕ → Out
-cause kinds none = mismatch
-cause kinds (some u) = cond (isRegular (kind kinds u)) kindOrder mismatch
+-- ── step 3: the roles ──
+
+-- a variable of the first kind expected, one of the second got: an integer or float variable against a Regular one exchanges the roles
+abbrev pub kindsExchange : Kind → Kind → Bool
+kindsExchange regular l = false
+kindsExchange integer l = isRegular l
+kindsExchange floating l = isRegular l
+
+-- whether the roles are exchanged, by the variables that the expected and the got side are
+abbrev pub exchanged : List Kind → Option ℕ → Option ℕ → Bool
+exchanged kinds none o = false
+exchanged kinds (some v) none = false
+exchanged kinds (some v) (some u) = kindsExchange (kind kinds v) (kind kinds u)
+
+-- the step with its roles exchanged, if they are: the variable of the got side is the variable of the step
+abbrev pub roles : Bool → Step → Step
+roles c same = same
+roles c compare = compare
+roles c left = cond c right left
+roles c right = right
+roles c down = down
+roles c swap = swap
+roles c differ = differ
 
 -- ── step 3: negation marks ──
 
@@ -424,7 +442,6 @@ settle m v z lost = (dry, m)
 abbrev pub onward : Out → Mem → (Mem → Res) → Res
 onward success m k = k m
 onward mismatch m k = (mismatch, m)
-onward kindOrder m k = (kindOrder, m)
 onward refused12 m k = (refused12, m)
 onward refused13 m k = (refused13, m)
 onward dry m k = (dry, m)
@@ -452,7 +469,7 @@ module _ (rows : List Shape) (kinds : List Kind) where
 
     -- step 3, by the kind test
     abbrev pub suits : Mem → ℕ → ℕ → Bool → Res
-    suits m v z false = (cause kinds (asVar (row rows z)), m)
+    suits m v z false = (mismatch, m)
     suits m v z true = other m v z (isSame v (asVar (row rows z)))
 
     -- pairs in order, then an answer
@@ -467,7 +484,7 @@ module _ (rows : List Shape) (kinds : List Kind) where
 
   -- what the rows x, expected, and y, got, ask for
   abbrev pub move : ℕ → ℕ → Act
-  move x y = act x y (row rows x) (row rows y) (choose (head (row rows x)) (head (row rows y)))
+  move x y = act x y (row rows x) (row rows y) (roles (exchanged kinds (asVar (row rows x)) (asVar (row rows y))) (choose (head (row rows x)) (head (row rows y))))
 
   -- x expected, y got, in at most n steps one after another
   unfoldable pub unify : ℕ → Mem → ℕ → ℕ → Res

@@ -1,12 +1,12 @@
--- A list of equations by itself, over tables with nothing bound: it has a common solution or none, as unification says, cause 2 and negation
--- marks apart. Assumes `Fresh` tables, sides of the table, and plain sides or Diverges as the got side.
+-- A list of equations by itself, over tables with nothing bound: it has a common solution or none, as unification says, negation marks
+-- apart. Assumes `Fresh` tables, sides of the table, and plain sides or Diverges as the got side.
 use mathlib.Core.Path.{_≡_, refl}
 use mathlib.Core.Logic.{_≢_, _↔_}
 use mathlib.Core.List.{List, [], _∷_}
 use mathlib.Core.Option.{Option, none, some}
 use Prim.Native.Nat.{ℕ, _<_}
 use lib.ListN.{length}
-use Rattle.theory.specs.Rules.{Shape, Kind, Out, success, mismatch, kindOrder, refused12, refused13, dry, Mem, Pair, Res, row, asVar, bound, onward, andThen}
+use Rattle.theory.specs.Rules.{Shape, Kind, Out, success, mismatch, refused12, refused13, dry, Mem, Pair, Res, row, asVar, bound, onward, andThen}
 use Rattle.theory.specs.Program.{Equation, solve}
 use Rattle.theory.specs.Basics.{All, clash}
 use Rattle.theory.specs.Ways.{Way, Kinded, Agrees, PlainSides, MeetsSides, Sided, Meets, Went}
@@ -40,11 +40,10 @@ module _ (rows : List Shape) (kinds : List Kind) where
     pub meant : (x v : ℕ) → asVar (row rows x) ≡ some v → v < length (m .binds)
 
   -- what an answer says of all that is asked, E, by the bindings at the end: success, that E's ways are those that agree with the
-  -- bindings, and that there is one; a mismatch of cause 1 or a refusal 12, that there is none
+  -- bindings, and that there is one; a mismatch or a refusal 12, that there is none
   abbrev pub Verdict : (Way → Type 0) → Out → List (Option ℕ) → Type 0
   Verdict E success b = ((w : Way) → Kinded kinds w → E w ↔ Agrees rows b w) × ((w : Way) × Kinded kinds w × E w)
   Verdict E mismatch b = (w : Way) → Kinded kinds w → E w → ⊥
-  Verdict E kindOrder b = Unit {0}
   Verdict E refused12 b = (w : Way) → Kinded kinds w → E w → ⊥
   Verdict E refused13 b = Unit {0}
   Verdict E dry b = ⊥
@@ -58,7 +57,6 @@ module _ (rows : List Shape) (kinds : List Kind) where
   verdict-iff : (E D : Way → Type 0) → ((w : Way) → E w ↔ D w) → (o : Out) (b : List (Option ℕ)) → Verdict E o b → Verdict D o b
   verdict-iff E D f success b v = (λ w k. (λ d. v .0 w k .0 (f w .1 d), λ a. f w .0 (v .0 w k .1 a)), (v .1 .0, v .1 .1, f (v .1 .0) .0 (v .1 .2)))
   verdict-iff E D f mismatch b v = λ w k d. v w k (f w .1 d)
-  verdict-iff E D f kindOrder b v = tt
   verdict-iff E D f refused12 b v = λ w k d. v w k (f w .1 d)
   verdict-iff E D f refused13 b v = tt
   verdict-iff E D f dry b v = v
@@ -76,7 +74,6 @@ module _ (rows : List Shape) (kinds : List Kind) where
     join : (q : Out) (m′ : Mem) → (solve rows kinds m (p .0) (p .1)) .0 ≡ q → Claim rows kinds (m′ .binds) log⁺ → (All Went log⁺ → VerdictOf (Asked log⁺ ps) (solves ps m′)) → VerdictOf (Asked log (p ∷ ps)) (onward q m′ (λ m″. solves ps m″))
     join success m′ e d f = verdict-iff (Asked log⁺ ps) (Asked log (p ∷ ps)) (λ w. (λ a. (a .0 .1, (a .0 .0, a .1)), λ a. ((a .1 .0, a .0), a .1 .1))) ((solves ps m′) .0) ((solves ps m′) .1 .binds) (f (e, o))
     join mismatch m′ e d f = λ w k a. d .noway .1 (rw e tt) o (h .2, s) w k (a .1 .0, a .0)
-    join kindOrder m′ e d f = tt
     join refused12 m′ e d f = λ w k a. d .noway .1 (rw e tt) o (h .2, s) w k (a .1 .0, a .0)
     join refused13 m′ e d f = tt
     join dry m′ e d f = rw e at (d .ended .0)
@@ -93,20 +90,19 @@ module _ (rows : List Shape) (kinds : List Kind) where
       let d = claim⁺ rows kinds m log c (p .0) (p .1) (h .0 .0) (h .0 .1) in
       join p ps m log c o s (h .0) (r .0) (r .1) refl d (λ w. solves-told ps (r .1) (log⁺ p ps m log c o s (h .0)) d w (h .0 .2, s) (h .1))
 
-  -- from nothing bound: the answer is success only if there is a common solution, and a mismatch of cause 1 or 12 only if there is none
+  -- from nothing bound: the answer is success only if there is a common solution, and a mismatch or 12 only if there is none
   pub solvable : (ps : List Pair) (m : Mem) → Fresh m → All (Posed rows) ps → VerdictOf (λ w. All (Solves rows w) ps) (solves ps m)
   solvable ps m f h =
       let c = blank-claim rows kinds (m .binds) (f .lower) (f .some-row) (f .kinds-sized) (f .unbound) (f .meant) in
       verdict-iff (Asked [] ps) (λ w. All (Solves rows w) ps) (λ w. (λ a. a .1, λ a. (tt, a))) ((solves ps m) .0) ((solves ps m) .1 .binds) (solves-told ps m [] c tt tt h)
 
-  -- cause 2 and 13 apart, the answer is success exactly if there is a common solution
-  pub solvable-exactly : (ps : List Pair) (m : Mem) → Fresh m → All (Posed rows) ps → (solves ps m) .0 ≢ kindOrder → (solves ps m) .0 ≢ refused13 → ((solves ps m) .0 ≡ success) ↔ ((w : Way) × Kinded kinds w × All (Solves rows w) ps)
+  -- 13 apart, the answer is success exactly if there is a common solution
+  pub solvable-exactly : (ps : List Pair) (m : Mem) → Fresh m → All (Posed rows) ps → (solves ps m) .0 ≢ refused13 → ((solves ps m) .0 ≡ success) ↔ ((w : Way) × Kinded kinds w × All (Solves rows w) ps)
   solvable-exactly ps m f h = by ((solves ps m) .0) (solvable ps m f h)
     where
-      by : (o : Out) → Verdict (λ w. All (Solves rows w) ps) o ((solves ps m) .1 .binds) → o ≢ kindOrder → o ≢ refused13 → (o ≡ success) ↔ ((w : Way) × Kinded kinds w × All (Solves rows w) ps)
-      by success v p q = (λ e. v .1, λ x. refl)
-      by mismatch v p q = (λ e. clash (cc), λ x. absurd (v (x .0) (x .1) (x .2)))
-      by kindOrder v p q = absurd (p refl)
-      by refused12 v p q = (λ e. clash (cc), λ x. absurd (v (x .0) (x .1) (x .2)))
-      by refused13 v p q = absurd (q refl)
-      by dry v p q = absurd v
+      by : (o : Out) → Verdict (λ w. All (Solves rows w) ps) o ((solves ps m) .1 .binds) → o ≢ refused13 → (o ≡ success) ↔ ((w : Way) × Kinded kinds w × All (Solves rows w) ps)
+      by success v q = (λ e. v .1, λ x. refl)
+      by mismatch v q = (λ e. clash (cc), λ x. absurd (v (x .0) (x .1) (x .2)))
+      by refused12 v q = (λ e. clash (cc), λ x. absurd (v (x .0) (x .1) (x .2)))
+      by refused13 v q = absurd (q refl)
+      by dry v q = absurd v

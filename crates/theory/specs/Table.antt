@@ -5,7 +5,7 @@ use mathlib.Core.Option.{Option, none, some}
 use mathlib.Core.Bool.{Bool, true, false}
 use Prim.Native.Nat.{ℕ}
 use native.Mathlib.Decide.{ℕ-discrete}
-use Rattle.theory.specs.Rules.{w16, w32, w64, bool, uint, int, inst, Shape, base, var, arr, ref, fn, fun, lam, err, div, Kind, regular, integer, floating, Out, success, mismatch, kindOrder, refused12, refused13, Mem, Res, choose, split, atVar, act, pass, bind, leads, seek, unify}
+use Rattle.theory.specs.Rules.{w16, w32, w64, bool, uint, int, inst, Shape, base, var, arr, ref, fn, fun, lam, err, div, Kind, regular, integer, floating, Out, success, mismatch, refused12, refused13, Mem, Res, choose, split, atVar, act, pass, bind, leads, seek, unify}
 use lib.ListN.{set}
 use Rattle.theory.specs.Program.{firstEqual, solve}
 
@@ -171,7 +171,8 @@ stated l = (l .answer, l .after)
 
 -- ── the tables ──
 
--- document 01, "Proved of the rules, in one table": v, w Regular, i Integer, all unbound where no binding is written
+-- document 01, "Proved of the rules, in one table": v, w Regular, i Integer, all unbound where no binding is written; (i, v) as document 02 e)
+-- has it
 abbrev pub table : List Line
 table =
     -- (v, Diverges) binds nothing
@@ -180,8 +181,8 @@ table =
     keeps unbound unmarked diverges-type bool-type mismatch ∷
     -- (Diverges, Error) success
     keeps unbound unmarked diverges-type error-type success ∷
-    -- (i, v) cause 2
-    keeps unbound unmarked i v kindOrder ∷
+    -- (i, v) binds v
+    changes unbound unmarked i v success (binding v i) unmarked ∷
     -- (v, i) binds v
     changes unbound unmarked v i success (binding v i) unmarked ∷
     -- (i, Error) cause 1
@@ -246,10 +247,30 @@ more =
     changes (binding v i32-type) unmarked v i success (set (binding v i32-type) i (some i32-type)) unmarked ∷
     -- bindings and arrays in turn, six calls one inside the other: v bound to array w, w to array i, i to i16, with an array of arrays of i16
     keeps (set (set (binding v array-w) w (some array-i)) i (some i16-type)) unmarked v array-array-i16 success ∷
-    -- cause 2 whatever v is bound to: v bound to i32, (i, v)
-    keeps (binding v i32-type) unmarked i v kindOrder ∷
-    -- an integer variable with a float variable is cause 1
+    -- ── roles ──
+    -- a float variable too: (f, v) binds v
+    changes unbound unmarked f v success (binding v f) unmarked ∷
+    -- and so inside arrays: (array i, array v) binds v
+    changes unbound unmarked array-i array-v success (binding v i) unmarked ∷
+    -- kinds alone are looked at, before bindings: v bound to i32, (i, v) binds i
+    changes (binding v i32-type) unmarked i v success (set (binding v i32-type) i (some i32-type)) unmarked ∷
+    -- v bound to Bool, (i, v) is a mismatch
+    keeps (binding v bool-type) unmarked i v mismatch ∷
+    -- i bound to i32, (i, v) binds v
+    changes (binding i i32-type) unmarked i v success (set (binding i i32-type) v (some i)) unmarked ∷
+    -- v bound to i, (i, v) is a success: i with itself
+    keeps (binding v i) unmarked i v success ∷
+    -- v is the variable of the step: its mark passes to i
+    changes unbound (marking v) i v success (binding v i) (set (marking v) i true) ∷
+    -- and the mark of i does nothing
+    changes unbound (marking i) i v success (binding v i) (marking i) ∷
+    -- two Regular variables keep their roles: v bound to Bool, (w, v) binds w
+    changes (binding v bool-type) unmarked w v success (set (binding v bool-type) w (some v)) unmarked ∷
+    -- an integer variable with a float variable is a mismatch
     keeps unbound unmarked i f mismatch ∷
+    -- and so either way
+    keeps unbound unmarked f i mismatch ∷
+    -- ── more bindings ──
     -- (Diverges, v) binds v
     changes unbound unmarked diverges-type v success (binding v diverges-type) unmarked ∷
     -- (v, Error) binds v

@@ -6,7 +6,7 @@ use mathlib.Core.Option.{Option, some}
 use mathlib.Core.Bool.{Bool, true}
 use Prim.Native.Nat.{ℕ, _<_}
 use lib.ListN.{length}
-use Rattle.theory.specs.Rules.{Base, nil, Shape, base, var, arr, ref, fn, fun, lam, err, div, Kind, Out, success, mismatch, kindOrder, refused12, refused13, dry, baseFits, isRegular, row, kind, bound, iter}
+use Rattle.theory.specs.Rules.{Base, nil, Shape, base, var, arr, ref, fn, fun, lam, err, div, Kind, Out, success, mismatch, refused12, refused13, dry, baseFits, isRegular, row, kind, bound, iter}
 use Rattle.theory.specs.Program.{Equation}
 use Rattle.theory.specs.Basics.{All}
 
@@ -93,11 +93,10 @@ module _ (rows : List Shape) where
 abbrev pub Went : Equation → Type 0
 Went q = q .answer ≡ success
 
--- the equation "fails or is refused 12", and its cause is not kind order
+-- the equation "fails or is refused 12"
 abbrev pub Failed : Out → Type 0
 Failed success = ⊥
 Failed mismatch = Unit {0}
-Failed kindOrder = ⊥
 Failed refused12 = Unit {0}
 Failed refused13 = ⊥
 Failed dry = ⊥

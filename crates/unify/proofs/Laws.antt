@@ -2,11 +2,13 @@
 use mathlib.Core.Path.{_≡_, refl, sym, ap, _∙_}
 use mathlib.Core.Logic.{_≢_}
 use mathlib.Core.List.{List}
-use mathlib.Core.Bool.{Bool, true, false, _&&_, _||_, cond}
+use mathlib.Core.Bool.{Bool, true, false, _&&_, _||_, true≢false}
 use Prim.Native.Nat.{ℕ, _≤_, _<_}
 use lib.Dec.{eqb}
 use borrow.Author.Tests.{eq-eqb, ne-eqb, lt-ltb, le-ltb}
-use Rattle.theory.specs.Rules.{same, compare, left, right, down, swap, differ, compared, choose, mismatch, kindOrder, var, row, kind, fits, kindFits, isRegular, regular, integer, floating}
+use borrow.Author.Tests.{eqb-false as test-false}
+use Rattle.theory.specs.Basics.{and-both, eqb-true}
+use Rattle.theory.specs.Rules.{same, compare, left, right, down, swap, differ, compared, choose, var, row, kind, fits, kindFits, kindsExchange, regular, integer, floating}
 use Rattle.type_table.specs.declared.Counts.{Counts}
 use Rattle.type_table.specs.declared.TypeId.{TypeId}
 use Rattle.type_table.specs.declared.VarId.{VarId}
@@ -16,9 +18,8 @@ use Rattle.type_table.specs.Memory.{pick, headAt, numberAt, varCell, kindOf, ki
 use Rattle.type_table.specs.View.{type, variable, kindCode, kindIn}
 use Rattle.unify.specs.declared.Next.the-variants.{On, Into}
 use Rattle.unify.specs.Step.{downTo}
-use Rattle.unify.specs.declared.Reply.{Reply}
 use Rattle.unify.specs.declared.Reply.the-variants.{Mismatch, Success}
-use Rattle.unify.specs.Leaf.{kindK, outK, Classed, Caused, Signed, SameVar, Compared, code}
+use Rattle.unify.specs.Leaf.{kindK, Classed, Exchanged, Signed, SameVar, Compared, code}
 use Rattle.type_table.specs.Tables.{kind-at}
 use Rattle.type_table.specs.Heads.{var-row}
 use Rattle.search.specs.Bridge.{no-var-row}
@@ -53,12 +54,6 @@ module _ (m : List ℕ) (c : Counts) (z : TypeId) (h : ℕ) (p : h ≡ headAt m 
   pub class-var : (u : ℕ) (r : Kind) → h ≡ 12 → u ≡ numberAt m (c .types) (z .0) → r ≡ kindIn m c (variable u) → Classed m c z r
   class-var u r e q s k = ap (fits (kindsOf m (c .vars)) k) (row-var u e q) ∙ ap (kindFits k) (sym (kind-in m c u r s))
 
-  pub cause-var : (u : ℕ) (r k : Kind) → h ≡ 12 → u ≡ numberAt m (c .types) (z .0) → r ≡ kindIn m c (variable u) → r ≡ k → (a : Reply) → outK a ≡ cond (isRegular (kindK k)) kindOrder mismatch → Caused m c z a
-  cause-var u r k e q s t a f = f ∙ rw (row-var u e q, ← (kind-in m c u r s), t)
-
-  pub cause-other : h ≢ 12 → Caused m c z Mismatch
-  cause-other d = rw (no-var-row m (c .types) (z .0) (rw p at d))
-
   pub signed-int : h ≡ 2 → Signed m c z true
   signed-int e = sym (signed-row m (c .types) (z .0) ∙ rw (← p, e))
 
@@ -70,6 +65,22 @@ module _ (m : List ℕ) (c : Counts) (z : TypeId) (h : ℕ) (p : h ≡ headAt m 
 
   pub same-no : (v : VarId) → h ≢ 12 → SameVar m c v z false
   same-no v d = rw (no-var-row m (c .types) (z .0) (rw p at d))
+
+-- ── the roles ──
+
+module _ (m : List ℕ) (c : Counts) (x y : TypeId) (h k : ℕ) (ph : h ≡ headAt m (c .types) (x .0)) (pk : k ≡ headAt m (c .types) (y .0)) (t : Bool) (pt : t ≡ (eqb h 12 && eqb k 12)) where
+  pub exchanged-vars : (v u : ℕ) (a b : Kind) (r : Bool) → t ≡ true → v ≡ numberAt m (c .types) (x .0) → u ≡ numberAt m (c .types) (y .0) → a ≡ kindIn m c (variable v) → b ≡ kindIn m c (variable u) → r ≡ kindsExchange (kindK a) (kindK b) → Exchanged m c x y r
+  exchanged-vars v u a b r e qv qu qa qb f =
+      let g = and-both (eqb h 12) (eqb k 12) (sym pt ∙ e) in
+      f ∙ rw (row-var m c x h ph v (eqb-true h 12 (g .0)) qv, row-var m c y k pk u (eqb-true k 12 (g .1)) qu, ← (kind-in m c v a qa), ← (kind-in m c u b qb))
+
+  pub exchanged-other : t ≡ false → Exchanged m c x y false
+  exchanged-other e = by (eqb h 12) (eqb k 12) refl refl (sym pt ∙ e)
+    where
+      by : (i j : Bool) → eqb h 12 ≡ i → eqb k 12 ≡ j → i && j ≡ false → Exchanged m c x y false
+      by true true p q f = absurd (true≢false f)
+      by false j p q f = rw (no-var-row m (c .types) (x .0) (rw ph at (test-false h 12 p)))
+      by true false p q f = rw (row-var m c x h ph (numberAt m (c .types) (x .0)) (eqb-true h 12 p) refl, no-var-row m (c .types) (y .0) (rw pk at (test-false k 12 q)))
 
 -- ── the choice of the step ──
 

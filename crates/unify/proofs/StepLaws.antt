@@ -7,7 +7,7 @@ use mathlib.Core.Bool.{Bool, true, false, not, _&&_, _||_, cond, true≢false, f
 use Prim.Native.Nat.{ℕ}
 use native.Mathlib.Omega.{arith}
 use lib.Dec.{eqb}
-use Rattle.theory.specs.Rules.{same, compare, left, right, down, swap, differ, Out, success, mismatch, kindOrder, refused12, refused13, dry, Mem, Res, row, kids, asVar, kind, bound, fits, kindFits, marked, passTo, pass, choose, compared, split, atVar, act, move, perform, each, onward, andThen, heed, chase, settle}
+use Rattle.theory.specs.Rules.{same, compare, left, right, down, swap, differ, Out, success, mismatch, refused12, refused13, dry, Mem, Res, row, kids, asVar, kind, bound, fits, kindFits, marked, passTo, pass, exchanged, roles, choose, compared, split, atVar, act, move, perform, each, onward, andThen, heed, chase, settle}
 use Rattle.type_table.specs.declared.Counts.{Counts}
 use Rattle.type_table.specs.declared.TypeId.{TypeId}
 use Rattle.type_table.specs.declared.VarId.{VarId}
@@ -27,9 +27,9 @@ use Rattle.unify.specs.declared.Next.{Next}
 use Rattle.unify.specs.declared.Next.the-variants.{Done, On, Into}
 use Rattle.search.specs.declared.Found.{Found}
 use Rattle.search.specs.declared.Found.the-variants.{Free, Ring, Inside, Lost}
-use Rattle.unify.specs.Leaf.{kindK, stepK, Classed, Caused, Signed, SameVar, Compared}
+use Rattle.unify.specs.Leaf.{kindK, stepK, Classed, Exchanged, Signed, SameVar, Compared}
 use Rattle.search.specs.Search.{seekIn, Sought, parts}
-use Rattle.unify.specs.Step.{Rec, resume, Parted, Enterable, Settled, Chased, Heeded, unsignedIn, passedIn, Met, Varied, downTo, Stepped}
+use Rattle.unify.specs.Step.{Rec, resume, Parted, Enterable, Settled, Chased, Heeded, unsignedIn, passedIn, Met, Varied, WithRoles, downTo, Stepped}
 use Rattle.type_table.specs.Tables.{mark-at}
 use Rattle.theory.specs.Basics.{and-both, eqb-true}
 use Rattle.type_table.specs.Heads.{head-row, var-row}
@@ -218,9 +218,19 @@ module _ (m : List ℕ) (c : Counts) (x z : TypeId) (h : ℕ) (p : h ≡ headAt 
     unfolding atVar
     variable-fits w r f a held = let g = a held in record { frame = g .frame; left-over = λ rec. rw (as-u, test, f) (g .left-over rec); enterable = g .enterable }
 
-    pub variable-fails : (a : Reply) → t ≡ false → Caused m c z a → Varied m c x z m (Done a)
+    pub variable-fails : t ≡ false → Varied m c x z m (Done Mismatch)
     unfolding atVar
-    variable-fails a f g held = record { frame = frame-same m c; left-over = λ rec. rw (as-u, test, f, g); enterable = tt }
+    variable-fails f held = record { frame = frame-same m c; left-over = λ rec. rw (as-u, test, f); enterable = tt }
+
+-- the roles exchanged
+pub roles-exchanged : (m : List ℕ) (c : Counts) (x y : TypeId) (t : Bool) (w : List ℕ) (r : Next) → Exchanged m c x y t → t ≡ true → Varied m c y x w r → WithRoles m c x y w r
+unfolding act
+roles-exchanged m c x y t w r p e a held = let g = a held in record { frame = g .frame; left-over = λ rec. rw (← p, e) (g .left-over rec); enterable = g .enterable }
+
+-- the roles as they are
+pub roles-kept : (m : List ℕ) (c : Counts) (x y : TypeId) (t : Bool) (w : List ℕ) (r : Next) → Exchanged m c x y t → t ≡ false → Varied m c x y w r → WithRoles m c x y w r
+unfolding act
+roles-kept m c x y t w r p e a held = let g = a held in record { frame = g .frame; left-over = λ rec. rw (← p, e) (g .left-over rec); enterable = g .enterable }
 
 -- ── steps 1 to 5 ──
 
@@ -230,7 +240,6 @@ last-success r = by (r .0) (r .1)
     by : (o : Out) (m : Mem) → onward o m (λ n. (success, n)) ≡ (o, m)
     by success m = refl
     by mismatch m = refl
-    by kindOrder m = refl
     by refused12 m = refl
     by refused13 m = refl
     by dry m = refl
@@ -284,11 +293,15 @@ unfolding parts
 array-kids m c x e = kids-row m c x ∙ rw e
 
 module _ (m : List ℕ) (c : Counts) (x y : TypeId) (h k : ℕ) (ph : h ≡ headAt m (c .types) (x .0)) (pk : k ≡ headAt m (c .types) (y .0)) (d : Decision) (pd : stepK d ≡ choose h k) where
-  moves : move (rowsIn m c) (kindsIn m c) (x .0) (y .0) ≡ act (x .0) (y .0) (rowIn m c x) (rowIn m c y) (stepK d)
+  -- whether the roles of the two rows are exchanged
+  abbrev exchange : Bool
+  exchange = exchanged (kindsIn m c) (asVar (rowIn m c x)) (asVar (rowIn m c y))
+
+  moves : move (rowsIn m c) (kindsIn m c) (x .0) (y .0) ≡ act (x .0) (y .0) (rowIn m c x) (rowIn m c y) (roles exchange (stepK d))
   moves = rw (head-row m (c .types) (x .0), head-row m (c .types) (y .0), ← ph, ← pk, ← pd)
 
   -- where the memory stays, and the rules do what r leaves
-  stay : (r : Next) → Enterable m c r → ((rec : Rec) → perform (rowsIn m c) (kindsIn m c) rec (memIn m c) (act (x .0) (y .0) (rowIn m c x) (rowIn m c y) (stepK d)) ≡ resume (rowsIn m c) (kindsIn m c) rec (memIn m c) r) → Stepped m c x y m r
+  stay : (r : Next) → Enterable m c r → ((rec : Rec) → perform (rowsIn m c) (kindsIn m c) rec (memIn m c) (act (x .0) (y .0) (rowIn m c x) (rowIn m c y) (roles exchange (stepK d))) ≡ resume (rowsIn m c) (kindsIn m c) rec (memIn m c) r) → Stepped m c x y m r
   stay r n f held = record { frame = frame-same m c; left-over = λ rec. rw moves (f rec); enterable = n }
 
   pub step-same : d ≡ Same → Stepped m c x y m (Done Success)
@@ -303,7 +316,7 @@ module _ (m : List ℕ) (c : Counts) (x y : TypeId) (h k : ℕ) (ph : h ≡ head
   unfolding act
   step-differ e = stay (Done Mismatch) tt (λ rec. rw e)
 
-  pub step-left : (w : List ℕ) (r : Next) → d ≡ Left → Varied m c x y w r → Stepped m c x y w r
+  pub step-left : (w : List ℕ) (r : Next) → d ≡ Left → WithRoles m c x y w r → Stepped m c x y w r
   unfolding act
   step-left w r e a held = let g = a held in record { frame = g .frame; left-over = λ rec. rw (moves, e) (g .left-over rec); enterable = g .enterable }
 

@@ -20,7 +20,7 @@ use Rattle.theory.specs.Program.{clip, fuel, solve}
 use Rattle.unify.specs.declared.Answer.{Answer}
 use Rattle.type_table.specs.Tables.{length-rows, length-binds, length-inputs}
 use Rattle.unify.specs.declared.Reply.{Reply}
-use Rattle.unify.specs.declared.Reply.the-variants.{Success, Mismatch, KindOrder, Refused12, Refused13, Dry}
+use Rattle.unify.specs.declared.Reply.the-variants.{Success, Mismatch, Refused12, Refused13, Dry}
 use Rattle.unify.specs.declared.Next.{Next}
 use Rattle.unify.specs.declared.Next.the-variants.{Done, On, Into}
 use Rattle.unify.specs.Leaf.{outK}
@@ -33,7 +33,6 @@ use Rattle.unify.specs.Promise.{Frame, Solved, answerIs, heldIn, kindsIn
 goes-on : (a : Reply) (m : Mem) (f : Mem → Res) → isSuccess a ≡ true → andThen (outK a, m) f ≡ f m
 goes-on Success m f e = refl
 goes-on Mismatch m f e = let y : _≡_ {A = Bool} true false = sym e in cc
-goes-on KindOrder m f e = let y : _≡_ {A = Bool} true false = sym e in cc
 goes-on Refused12 m f e = let y : _≡_ {A = Bool} true false = sym e in cc
 goes-on Refused13 m f e = let y : _≡_ {A = Bool} true false = sym e in cc
 goes-on Dry m f e = let y : _≡_ {A = Bool} true false = sym e in cc
@@ -42,7 +41,6 @@ goes-on Dry m f e = let y : _≡_ {A = Bool} true false = sym e in cc
 stops : (a : Reply) (m : Mem) (f : Mem → Res) → isSuccess a ≡ false → andThen (outK a, m) f ≡ (outK a, m)
 stops Success m f e = let y : _≡_ {A = Bool} true false = e in cc
 stops Mismatch m f e = refl
-stops KindOrder m f e = refl
 stops Refused12 m f e = refl
 stops Refused13 m f e = refl
 stops Dry m f e = refl
@@ -219,7 +217,6 @@ held-is m c = by0 (decLt (length m) 47010) (decLt 4622 (c .types)) (decLt 1024 (
 answer-is : (a : Reply) → answerOf a ≡ answerIs (outK a)
 answer-is Success = refl
 answer-is Mismatch = refl
-answer-is KindOrder = refl
 answer-is Refused12 = refl
 answer-is Refused13 = refl
 answer-is Dry = refl
@@ -227,7 +224,6 @@ answer-is Dry = refl
 number-is : (a : Reply) → numbers (answerOf a) ≡ numbersOf (outK a)
 number-is Success = refl
 number-is Mismatch = refl
-number-is KindOrder = refl
 number-is Refused12 = refl
 number-is Refused13 = refl
 number-is Dry = refl

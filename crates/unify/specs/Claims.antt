@@ -7,7 +7,7 @@ use mathlib.Core.Option.{none, some}
 use mathlib.Core.Bool.{true, false}
 use Prim.Native.Nat.{ℕ, _<_}
 use lib.ListN.{length}
-use Rattle.theory.specs.Rules.{Shape, Kind, success, kindOrder, refused13, Mem, Pair, row, unify}
+use Rattle.theory.specs.Rules.{Shape, Kind, success, refused13, Mem, Pair, row, unify}
 use Rattle.theory.specs.Program.{Equation, St, Prog, madeOf, equalRows, firstEqual, run, raised, solve, solved}
 use Rattle.theory.specs.Basics.{All}
 use Rattle.theory.specs.Ways.{Way, Kinded, den, Agrees, Sided, Meets, Went, Failed}
@@ -59,7 +59,7 @@ pub success-says : (m : List ℕ) (c : Counts) → Sound m c → (x y : TypeId) 
     → (f : Way) → Kinded (kindsIn m c) f → Agrees (rowsIn m c) (bindsIn w c) f ↔ (Agrees (rowsIn m c) (bindsIn m c) f × (den (rowsIn m c) f (rowOf c x) ≡ den (rowsIn m c) f (rowOf c y)))
 success-says = meaning.unify-success
 
--- a mismatch of cause 1, or 12: no way that agrees with the bindings meets the equation
+-- a mismatch, or 12: no way that agrees with the bindings meets the equation
 pub failure-says : (m : List ℕ) (c : Counts) → Sound m c → (x y : TypeId) → PlainSides m c x y → (w : List ℕ) (r : Answer) → Solved m c x y w r → Fails r
     → (f : Way) → Kinded (kindsIn m c) f → Agrees (rowsIn m c) (bindsIn m c) f → den (rowsIn m c) f (rowOf c x) ≡ den (rowsIn m c) f (rowOf c y) → ⊥
 failure-says = meaning.unify-failed
@@ -100,16 +100,16 @@ module _ {X Er A : Type 0} (rows : List Shape) (own : X) (p : Prog X Er A) (test
       → ((w : Way) → Kinded (final .kinds) w → All (Meets (final .rows) w) (final .log) ↔ Agrees (final .rows) (final .mem .binds) w) × ((w : Way) × Kinded (final .kinds) w × All (Meets (final .rows) w) (final .log))
   demand-3-without-error = rules.demand-3-without-error rows own p test
 
-  -- whatever the answer: no way meets the equations up to and including the first that failed with cause 1 or was refused 12
+  -- whatever the answer: no way meets the equations up to and including the first that failed or was refused 12
   pub demand-3-first-failure : (after before : List Equation) (q : Equation) → final .log ≡ after ++ q ∷ before → Failed (q .answer) → All Went before → All (Sided (final .rows)) (q ∷ before)
       → (w : Way) → Kinded (final .kinds) w → All (Meets (final .rows) w) (q ∷ before) → ⊥
   demand-3-first-failure = rules.demand-3-first-failure rows own p test
 
 -- ── 6. a list of equations by itself ──
 
--- from nothing bound, cause 2 and 13 apart: success exactly if there is a common solution
+-- from nothing bound, 13 apart: success exactly if there is a common solution
 pub list-exactly : (rows : List Shape) (kinds : List Kind) (ps : List Pair) (m : Mem) → Fresh rows kinds m → All (Posed rows) ps → let o = (solves rows kinds ps m) .0 in
-    o ≢ kindOrder → o ≢ refused13 → (o ≡ success) ↔ ((w : Way) × Kinded kinds w × All (Solves rows w) ps)
+    o ≢ refused13 → (o ≡ success) ↔ ((w : Way) × Kinded kinds w × All (Solves rows w) ps)
 list-exactly = rules.list-exactly
 
 -- ── 7. pooling ──

@@ -1,10 +1,10 @@
--- What the leaves answer: the kind test, the cause, the mark's test, the choice of the step, step 1's comparison.
+-- What the leaves answer: the kind test, the roles, the mark's test, the choice of the step, step 1's comparison.
 use mathlib.Core.Path.{_≡_}
 use mathlib.Core.List.{List}
 use mathlib.Core.Bool.{Bool, cond}
 use Prim.Native.Nat.{ℕ, _+_}
 use lib.Dec.{eqb, ltb}
-use Rattle.theory.specs.Rules.{Step, same, compare, left, right, down, swap, differ, Out, success, mismatch, kindOrder, refused12, refused13, dry, row, asVar, fits, kindFits, cause, signed, isSame, alike, regular, integer, floating}
+use Rattle.theory.specs.Rules.{Step, same, compare, left, right, down, swap, differ, Out, success, mismatch, refused12, refused13, dry, row, asVar, fits, kindFits, exchanged, signed, isSame, alike, regular, integer, floating}
 use Rattle.theory.specs.Rules.{Kind as KindT}
 use Rattle.type_table.specs.declared.Counts.{Counts}
 use Rattle.type_table.specs.declared.TypeId.{TypeId}
@@ -15,7 +15,7 @@ use Rattle.type_table.specs.Memory.{pick}
 use Rattle.unify.specs.declared.Decision.{Decision}
 use Rattle.unify.specs.declared.Decision.the-variants.{Same, Compare, Left, Right, Down, Swap, Differ}
 use Rattle.unify.specs.declared.Reply.{Reply}
-use Rattle.unify.specs.declared.Reply.the-variants.{Success, Mismatch, KindOrder, Refused12, Refused13, Dry}
+use Rattle.unify.specs.declared.Reply.the-variants.{Success, Mismatch, Refused12, Refused13, Dry}
 use Rattle.unify.specs.Promise.{kindsIn, rowIn}
 
 -- a kind as the rules name it
@@ -28,7 +28,6 @@ kindK Float = floating
 abbrev pub outK : Reply → Out
 outK Success = success
 outK Mismatch = mismatch
-outK KindOrder = kindOrder
 outK Refused12 = refused12
 outK Refused13 = refused13
 outK Dry = dry
@@ -47,9 +46,9 @@ stepK Differ = differ
 abbrev pub Classed : List ℕ → Counts → TypeId → Kind → Type 0
 Classed m c z r = (k : KindT) → fits (kindsIn m c) k (rowIn m c z) ≡ kindFits k (kindK r)
 
--- the cause is that of the rules
-abbrev pub Caused : List ℕ → Counts → TypeId → Reply → Type 0
-Caused m c z r = outK r ≡ cause (kindsIn m c) (asVar (rowIn m c z))
+-- whether the roles of two variables are exchanged
+abbrev pub Exchanged : List ℕ → Counts → TypeId → TypeId → Bool → Type 0
+Exchanged m c x y r = r ≡ exchanged (kindsIn m c) (asVar (rowIn m c x)) (asVar (rowIn m c y))
 
 -- a marked variable may meet the row
 abbrev pub Signed : List ℕ → Counts → TypeId → Bool → Type 0

@@ -3,7 +3,7 @@ use mathlib.Core.Path.{_≡_, refl, ap}
 use mathlib.Core.Logic.{_↔_}
 use mathlib.Core.List.{List}
 use Prim.Native.Nat.{ℕ}
-use Rattle.theory.specs.Rules.{Out, success, mismatch, kindOrder, refused12, refused13, dry, Mem}
+use Rattle.theory.specs.Rules.{Out, success, mismatch, refused12, refused13, dry, Mem}
 use Rattle.theory.specs.Program.{clip}
 use Rattle.theory.specs.Ways.{Way, Kinded, Plain, den, Agrees, Failed}
 use Rattle.theory.specs.Sound.{Fair, success-exact, failed-none}
@@ -15,7 +15,6 @@ use Rattle.type_table.specs.Memory.{bindsOf, memOf}
 use Rattle.type_table.specs.Sound.{Sound}
 use Rattle.unify.specs.declared.Answer.{Answer}
 use Rattle.unify.specs.declared.Answer.the-variants.{Success, Mismatch, Refused12, Refused13}
-use Rattle.unify.specs.declared.Cause.the-variants.{Other, KindOrder}
 use Rattle.search.specs.Search.{bindsIn}
 use Rattle.unify.specs.Keeps.{held-sound, never-dry}
 use Rattle.unify.specs.Promise.{Solved, SolvedBy, answerIs, kindsIn, memIn, rowsIn, solveIn}
@@ -30,18 +29,16 @@ pub record PlainSides (m : List ℕ) (c : Counts) (x y : TypeId) : Type 0 where
   pub got : Plain (rowsIn m c) (rowOf c y)
   pub bindings : Fair (rowsIn m c) (bindsIn m c)
 
--- a mismatch whose cause is not kind order, or refused 12
+-- a mismatch, or refused 12
 abbrev pub Fails : Answer → Type 0
 Fails Success = ⊥
-Fails (Mismatch Other) = Unit {0}
-Fails (Mismatch KindOrder) = ⊥
+Fails Mismatch = Unit {0}
 Fails Refused12 = Unit {0}
 Fails Refused13 = ⊥
 
 success-of : (o : Out) → Success ≡ answerIs o → o ≡ success
 success-of success e = refl
 success-of mismatch e = cc
-success-of kindOrder e = cc
 success-of refused12 e = cc
 success-of refused13 e = cc
 success-of dry e = cc
@@ -49,7 +46,6 @@ success-of dry e = cc
 failed-of : (o : Out) (r : Answer) → r ≡ answerIs o → Fails r → Ended o → Failed o
 failed-of success r e f n = rw e at f
 failed-of mismatch r e f n = tt
-failed-of kindOrder r e f n = rw e at f
 failed-of refused12 r e f n = tt
 failed-of refused13 r e f n = rw e at f
 failed-of dry r e f n = n
@@ -66,7 +62,7 @@ module _ (m : List ℕ) (c : Counts) (sound : Sound m c) (x y : TypeId) (plain :
       let b : bindsOf w (c .vars) ≡ (solveIn m c (x .0) (y .0)) .1 .binds = ap (λ (z : Mem). z .binds) (t .memory) in
       rw b ((success-exact (rowsIn m c) (kindsIn m c) (sound .lower) (memIn m c) (rowOf c x) (rowOf c y) (plain .expected) (plain .got) (plain .bindings) (success-of ((solveIn m c (x .0) (y .0)) .0) (t .answer))) .1 f k)
 
-  -- a mismatch of cause 1, or 12, leaves no agreeing way that meets it
+  -- a mismatch, or 12, leaves no agreeing way that meets it
   pub unify-failed : (w : List ℕ) (r : Answer) → Solved m c x y w r → Fails r → (f : Way) → Kinded (kindsIn m c) f → Agrees (rowsIn m c) (bindsIn m c) f → den (rowsIn m c) f (rowOf c x) ≡ den (rowsIn m c) f (rowOf c y) → ⊥
   unfolding solveIn memOf
   unify-failed w r s e =

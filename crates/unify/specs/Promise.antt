@@ -7,7 +7,7 @@ use mathlib.Core.Bool.{false}
 use Prim.Native.Nat.{ℕ, _+_, _*_, _<_}
 use lib.ListN.{length}
 use lib.Dec.{ltb}
-use Rattle.theory.specs.Rules.{Kind, Mem, Out, success, mismatch, kindOrder, refused12, refused13, dry, numbersOf, Res}
+use Rattle.theory.specs.Rules.{Kind, Mem, Out, success, mismatch, refused12, refused13, dry, numbersOf, Res}
 use Rattle.theory.specs.Program.{clip, solve}
 use Rattle.type_table.specs.declared.Counts.{Counts}
 use Rattle.type_table.specs.declared.TypeId.{TypeId}
@@ -15,7 +15,6 @@ use Rattle.type_table.specs.Memory.{pick, cells, most-types, most-vars, counts,
 pub use Rattle.search.specs.Search.{rowsIn, rowIn}
 use Rattle.unify.specs.declared.Answer.{Answer}
 use Rattle.unify.specs.declared.Answer.the-variants.{Success, Mismatch, Refused12, Refused13}
-use Rattle.unify.specs.declared.Cause.the-variants.{Other, KindOrder}
 
 -- ── the tables in a memory ──
 
@@ -42,8 +41,7 @@ pub record Frame (m : List ℕ) (c : Counts) (w : List ℕ) : Type 0 where
 -- the answer that a result of the rules has; out of steps is never met in sound tables
 abbrev pub answerIs : Out → Answer
 answerIs success = Success
-answerIs mismatch = Mismatch Other
-answerIs kindOrder = Mismatch KindOrder
+answerIs mismatch = Mismatch
 answerIs refused12 = Refused12
 answerIs refused13 = Refused13
 answerIs dry = Refused12
@@ -51,8 +49,7 @@ answerIs dry = Refused12
 -- document 01's numbers of an answer: Check's answer, and the CAUSE of an error row
 abbrev pub numbers : Answer → ℕ × ℕ
 numbers Success = (0, 0)
-numbers (Mismatch Other) = (0, 1)
-numbers (Mismatch KindOrder) = (0, 2)
+numbers Mismatch = (0, 1)
 numbers Refused12 = (12, 0)
 numbers Refused13 = (13, 0)
 

@@ -1,10 +1,10 @@
 -- One step of unification in the memory: what is left to do, and what stays as it was.
 use mathlib.Core.Path.{_≡_}
 use mathlib.Core.List.{List, _∷_}
-use mathlib.Core.Bool.{Bool, true, not, _&&_}
+use mathlib.Core.Bool.{Bool, true, not, _&&_, cond}
 use Prim.Native.Nat.{ℕ}
 use lib.Dec.{eqb}
-use Rattle.theory.specs.Rules.{Shape, Mem, Res, row, asVar, kids, bound, isSame, signed, split, atVar, perform, move, other, heed, chase, settle}
+use Rattle.theory.specs.Rules.{Shape, Mem, Res, row, asVar, kids, bound, isSame, signed, left, right, exchanged, split, atVar, act, perform, move, other, heed, chase, settle}
 use Rattle.theory.specs.Rules.{Kind as KindT}
 use Rattle.type_table.specs.declared.Counts.{Counts}
 use Rattle.type_table.specs.declared.TypeId.{TypeId}
@@ -72,6 +72,10 @@ Met m c v z w r = Held m c → Went m c w r (λ rec. other (rowsIn m c) (kindsIn
 -- what `variable` does: step 3, if the row x is a variable
 abbrev pub Varied : List ℕ → Counts → TypeId → TypeId → List ℕ → Next → Type 0
 Varied m c x z w r = Held m c → Went m c w r (λ rec. perform (rowsIn m c) (kindsIn m c) rec (memIn m c) (atVar (asVar (rowIn m c x)) (z .0)))
+
+-- what `with_roles` does: step 3, the row x being that of a variable, the roles as they are or exchanged
+abbrev pub WithRoles : List ℕ → Counts → TypeId → TypeId → List ℕ → Next → Type 0
+WithRoles m c x y w r = Held m c → Went m c w r (λ rec. perform (rowsIn m c) (kindsIn m c) rec (memIn m c) (act (x .0) (y .0) (rowIn m c x) (rowIn m c y) (cond (exchanged (kindsIn m c) (asVar (rowIn m c x)) (asVar (rowIn m c y))) right left)))
 
 -- two arrays go on with their elements, a function and a lambda with their parts
 unfoldable pub downTo : List ℕ → Counts → TypeId → TypeId → Next

@@ -9,9 +9,8 @@ use Rattle.type_table.specs.declared.TypeId.{TypeId}
 use Rattle.type_table.specs.Memory.{inputsFrom, Held}
 use Rattle.unify.specs.declared.Answer.{Answer}
 use Rattle.unify.specs.declared.Answer.the-variants.{Success as Success·A, Mismatch as Mismatch·A, Refused12 as Refused12·A, Refused13 as Refused13·A}
-use Rattle.unify.specs.declared.Cause.the-variants.{Other, KindOrder as KindOrder·C}
 use Rattle.unify.specs.declared.Reply.{Reply}
-use Rattle.unify.specs.declared.Reply.the-variants.{Success, Mismatch, KindOrder, Refused12, Refused13, Dry}
+use Rattle.unify.specs.declared.Reply.the-variants.{Success, Mismatch, Refused12, Refused13, Dry}
 use Rattle.unify.specs.Leaf.{outK}
 use Rattle.unify.specs.Step.{Rec, Parted}
 use Rattle.unify.specs.Promise.{Frame, kindsIn, memIn, rowsIn}
@@ -20,7 +19,6 @@ use Rattle.unify.specs.Promise.{Frame, kindsIn, memIn, rowsIn}
 abbrev pub isSuccess : Reply → Bool
 isSuccess Success = true
 isSuccess Mismatch = false
-isSuccess KindOrder = false
 isSuccess Refused12 = false
 isSuccess Refused13 = false
 isSuccess Dry = false
@@ -48,8 +46,7 @@ Eached m c f g k n w a = Held m c → Ran m c w a (each (rowsIn m c) (kindsIn m 
 -- the answer that a result has; out of steps is never met in sound tables
 abbrev pub answerOf : Reply → Answer
 answerOf Success = Success·A
-answerOf Mismatch = Mismatch·A Other
-answerOf KindOrder = Mismatch·A KindOrder·C
+answerOf Mismatch = Mismatch·A
 answerOf Refused12 = Refused12·A
 answerOf Refused13 = Refused13·A
 answerOf Dry = Refused12·A

@@ -4,11 +4,11 @@ ghost use mathlib.Core.List.{List};
 ghost use mathlib.Core.Bool.{_&&_, _||_};
 ghost use Prim.Native.Nat.{ℕ, _+_, _≤_};
 ghost use lib.Dec.{eqb};
-ghost use Rattle.theory.specs.Rules.{kindFits};
+ghost use Rattle.theory.specs.Rules.{kindFits, kindsExchange};
 ghost use Rattle.theory.specs.Rules.{compared as compared·T, choose as choose·T};
 ghost use Rattle.type_table.specs.Memory.{inputsFrom};
-ghost use Rattle.unify.specs.Leaf.{kindK, stepK, cap, code, Classed, Caused, Signed, Compared, SameVar};
-ghost use Rattle.unify.specs.Step.{Settled, Chased, unsignedIn, passedIn, Met, Varied, downTo, Stepped};
+ghost use Rattle.unify.specs.Leaf.{kindK, stepK, cap, code, Classed, Exchanged, Signed, Compared, SameVar};
+ghost use Rattle.unify.specs.Step.{Settled, Chased, unsignedIn, passedIn, Met, Varied, WithRoles, downTo, Stepped};
 ghost use Rattle.unify.specs.Unify.{isSuccess, Eached, Entered, Unified, answerOf};
 ghost use Rattle.unify.specs.Promise.{heldIn, Solved};
 use search::Found;
@@ -33,21 +33,15 @@ use type_table::Kind;
 use type_table::TypeId;
 use type_table::VarId;
 
-// What sets the causes of a mismatch apart: 2 is kind order.
-pub enum Cause {
-    Other,
-    KindOrder,
-}
-
 // The answer to an equation.
 pub enum Answer {
     Success,
-    Mismatch(Cause),
+    Mismatch,
     Refused12,
     Refused13,
 }
 
-// ── step 3: the kind test, the cause, the mark ──
+// ── step 3: the kind test, the roles, the mark ──
 
 // Integer-like, float-like or neither, as the kind test sees a row.
 fn class(m: &[u16], c: Counts, z: TypeId) -> Kind
@@ -86,20 +80,39 @@ fn kind_test(k: Kind, l: Kind) -> bool
     }
 }
 
-// The cause of a failed kind test: kind order against a Regular variable.
-fn cause_of(m: &[u16], c: Counts, z: TypeId) -> Reply
-    ensures { λ r. ⌜ Caused (now (m .entry)) c z r ⌝ }
+// Whether a variable of the kind k, expected, and one of the kind l, got, exchange their roles.
+fn kinds_exchange(k: Kind, l: Kind) -> bool
+    ensures { λ r. ⌜ r ≡ kindsExchange (kindK k) (kindK l) ⌝ }
 {
-    let h = type_table::head(m, c, z);
-    if h == HEAD_INFER_TY {
-        let u = type_table::number(m, c, z);
-        return match type_table::kind_of(m, c, VarId(u)) {
-            Kind::Regular => Reply::KindOrder,
-            Kind::Integer => Reply::Mismatch,
-            Kind::Float => Reply::Mismatch,
-        };
+    match k {
+        Kind::Regular => false,
+        Kind::Integer => match l {
+            Kind::Regular => true,
+            Kind::Integer => false,
+            Kind::Float => false,
+        },
+        Kind::Float => match l {
+            Kind::Regular => true,
+            Kind::Integer => false,
+            Kind::Float => false,
+        },
     }
-    Reply::Mismatch
+}
+
+// Whether the roles are exchanged: the row x is an integer or float variable's, the row y a Regular one's.
+fn exchanged(m: &[u16], c: Counts, x: TypeId, y: TypeId) -> bool
+    ensures { λ r. ⌜ Exchanged (now (m .entry)) c x y r ⌝ }
+{
+    let h = type_table::head(m, c, x);
+    let k = type_table::head(m, c, y);
+    if both(h, HEAD_INFER_TY, k, HEAD_INFER_TY) {
+        let v = type_table::number(m, c, x);
+        let u = type_table::number(m, c, y);
+        let a = type_table::kind_of(m, c, VarId(v));
+        let b = type_table::kind_of(m, c, VarId(u));
+        return kinds_exchange(a, b);
+    }
+    false
 }
 
 // Whether a marked variable may meet a row: Int, or a variable.
@@ -132,7 +145,6 @@ fn same_var(m: &[u16], c: Counts, v: VarId, z: TypeId) -> bool
 enum Reply {
     Success,
     Mismatch,
-    KindOrder,
     Refused12,
     Refused13,
     Dry,
@@ -337,10 +349,19 @@ fn variable(m: &mut [u16], c: Counts, x: TypeId, z: TypeId) -> Next
         if kind_test(k, l) {
             return meet(m, c, VarId(u), z);
         }
-        let a = cause_of(m, c, z);
-        return Next::Done(a);
+        return Next::Done(Reply::Mismatch);
     }
     Next::Done(Reply::Mismatch)
+}
+
+// Step 3, a variable expected: the variable of the step, unless the roles are exchanged.
+fn with_roles(m: &mut [u16], c: Counts, x: TypeId, y: TypeId) -> Next
+    ensures { λ r. ⌜ WithRoles (now (m .entry)) c x y (now (m .exit)) r ⌝ }
+{
+    if exchanged(m, c, x, y) {
+        return variable(m, c, y, x);
+    }
+    variable(m, c, x, y)
 }
 
 // Step 2, or step 4 with the function first.
@@ -369,7 +390,7 @@ fn step(m: &mut [u16], c: Counts, x: TypeId, y: TypeId) -> Next
             let a = compare(m, c, x, y);
             Next::Done(a)
         }
-        Decision::Left => variable(m, c, x, y),
+        Decision::Left => with_roles(m, c, x, y),
         Decision::Right => variable(m, c, y, x),
         Decision::Down => down(m, c, x, y),
         Decision::Swap => Next::Into(y, x),
@@ -385,7 +406,6 @@ fn is_success(a: Reply) -> bool
     match a {
         Reply::Success => true,
         Reply::Mismatch => false,
-        Reply::KindOrder => false,
         Reply::Refused12 => false,
         Reply::Refused13 => false,
         Reply::Dry => false,
@@ -466,8 +486,7 @@ fn answer_of(a: Reply) -> Answer
 {
     match a {
         Reply::Success => Answer::Success,
-        Reply::Mismatch => Answer::Mismatch(Cause::Other),
-        Reply::KindOrder => Answer::Mismatch(Cause::KindOrder),
+        Reply::Mismatch => Answer::Mismatch,
         Reply::Refused12 => Answer::Refused12,
         Reply::Refused13 => Answer::Refused13,
         Reply::Dry => Answer::Refused12,

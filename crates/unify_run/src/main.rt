@@ -17,7 +17,6 @@ use type_table::Row;
 use type_table::TypeId;
 use type_table::VarId;
 use unify::Answer;
-use unify::Cause;
 
 type Memory = [u16; type_table::MEMORY];
 
@@ -63,10 +62,7 @@ fn put_pair(a: u16, b: u16) {
 fn put_answer(a: Answer) {
     match a {
         Answer::Success => put_pair(0, 0),
-        Answer::Mismatch(c) => match c {
-            Cause::Other => put_pair(0, 1),
-            Cause::KindOrder => put_pair(0, 2),
-        },
+        Answer::Mismatch => put_pair(0, 1),
         Answer::Refused12 => put_pair(12, 0),
         Answer::Refused13 => put_pair(13, 0),
     }

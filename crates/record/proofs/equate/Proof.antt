@@ -1,7 +1,5 @@
-use mathlib.Core.Path.{ap, _∙_}
-use Rattle.unify.specs.declared.Answer.the-variants.{Mismatch}
+use Rattle.record.proofs.EquationLaws.{equation-met, equation-mismatch, equation-12, equation-13}
 use borrow.Author.Needs.{needs}
-use Rattle.record.proofs.EquationLaws.{equation-met, equation-other, equation-order, equation-12, equation-13}
 use Rattle.record.proofs.equate.Statement.{statement}
 use Rattle.record.proofs.equate.Tie as tie
 
@@ -9,9 +7,6 @@ pub equate-spec : {M : Type 1} → statement M
 equate-spec =
     tie.close (tie.spec
     (λ c κs. search needs)
-    (λ c. search needs)
-    (λ c κs. search needs)
-    (λ c. search needs)
     (λ c. search needs)
     (λ c κs. search needs)
     (λ c. search needs)
@@ -23,10 +18,8 @@ equate-spec =
     (λ c. search needs)
     (λ c n. equation-met _ _ _ _ _ _ (c .before .before .before .before .before .before .before .before .unify .ensures) (c .before .before .before .before .enum-told .given .1) n _ _ _ (c .before .before .log .ensures))
     (λ c. search needs)
-    (λ c n. equation-other _ _ (c .before .before .before .before .before .before .before .before .before .before .before .before .before .before .before .args .c) _ _ _ (c .before .before .before .before .before .before .before .before .before .before .before .unify .ensures) ((c .before .before .before .before .before .before .before .k .given .1) ∙ ap Mismatch (c .before .before .before .before .enum-told2 .given .1)) n (c .before .before .before .before .before .before .before .before .before .before .before .before .before .before .before .args .e) (c .before .before .failed .last .0) (c .before .before .failed .result) (c .before .before .failed .ensures))
+    (λ c n. equation-mismatch _ _ (c .before .before .before .before .before .before .before .before .before .before .before .before .args .c) _ _ _ (c .before .before .before .before .before .before .before .before .unify .ensures) (c .before .before .before .before .enum-told2 .given .1) n (c .before .before .before .before .before .before .before .before .before .before .before .before .args .e) (c .before .before .failed .last .0) (c .before .before .failed .result) (c .before .before .failed .ensures))
     (λ c. search needs)
-    (λ c n. equation-order _ _ (c .before .before .before .before .before .before .before .before .before .before .before .before .before .before .before .args .c) _ _ _ (c .before .before .before .before .before .before .before .before .before .before .before .unify .ensures) ((c .before .before .before .before .before .before .before .k .given .1) ∙ ap Mismatch (c .before .before .before .before .enum-told3 .given .1)) n (c .before .before .before .before .before .before .before .before .before .before .before .before .before .before .before .args .e) (c .before .before .failed2 .last .0) (c .before .before .failed2 .result) (c .before .before .failed2 .ensures))
+    (λ c n. equation-12 _ _ _ _ _ _ (c .before .before .before .before .before .before .before .before .unify .ensures) (c .before .before .before .before .enum-told3 .given .1) n _ _ _ (c .before .before .log2 .ensures))
     (λ c. search needs)
-    (λ c n. equation-12 _ _ _ _ _ _ (c .before .before .before .before .before .before .before .before .unify .ensures) (c .before .before .before .before .enum-told4 .given .1) n _ _ _ (c .before .before .log2 .ensures))
-    (λ c. search needs)
-    (λ c n. equation-13 _ _ _ _ _ _ (c .before .before .before .before .before .before .before .before .unify .ensures) (c .before .before .before .before .enum-told5 .given .1) n _ _ _ (c .before .before .log3 .ensures)))
+    (λ c n. equation-13 _ _ _ _ _ _ (c .before .before .before .before .before .before .before .before .unify .ensures) (c .before .before .before .before .enum-told4 .given .1) n _ _ _ (c .before .before .log3 .ensures)))
