@@ -3,6 +3,7 @@ use crate::ours::Given;
 use crate::reader::Reading;
 use crate::tables::Hidden;
 use original::{Outcome, Outside, Want};
+use rules::Departure;
 use rules::walk::{Equation, Walk};
 use std::cell::Cell;
 
@@ -15,10 +16,12 @@ pub enum Named {
     Refusal12,
     Refusal13,
     Marks,
+    /// A number variable that meets a Regular one, document 02 e).
+    Roles,
 }
 
-pub const NAMED: [Named; 6] =
-    [Named::Rings, Named::Refusal10, Named::Refusal11, Named::Refusal12, Named::Refusal13, Named::Marks];
+pub const NAMED: [Named; 7] =
+    [Named::Rings, Named::Refusal10, Named::Refusal11, Named::Refusal12, Named::Refusal13, Named::Marks, Named::Roles];
 
 impl Named {
     /// The section's title.
@@ -30,6 +33,7 @@ impl Named {
             Named::Refusal12 => "Refusal 12: a variable inside its own binding",
             Named::Refusal13 => "Refusal 13: a negated variable that is no signed integer",
             Named::Marks => "Marks of one bit",
+            Named::Roles => "Roles exchanged",
         }
     }
 }
@@ -62,8 +66,8 @@ pub struct Expected {
 pub struct Rules {
     pub answer: u8,
     pub text: String,
-    /// The node in whose rule the first ring is reached.
-    pub first_ring: Option<usize>,
+    /// The first departure from the source, and the node in whose rule it is.
+    pub first_departure: Option<(Departure, usize)>,
     /// What the walk leaves, also where it is refused.
     pub hidden: Hidden,
 }
@@ -124,7 +128,7 @@ fn by_the_rules(body: &body::Body) -> Rules {
     let equation = |e: &Equation| {
         let ended = match e.outcome {
             rules::Outcome::Success => 0,
-            rules::Outcome::Mismatch { cause } => usize::from(cause),
+            rules::Outcome::Mismatch => 1,
             rules::Outcome::Refused12 => 12,
             rules::Outcome::Refused13 => 13,
         };
@@ -135,12 +139,12 @@ fn by_the_rules(body: &body::Body) -> Rules {
         equations: walk.equations.iter().map(equation).collect(),
         marked: marked.map(|(number, _)| number).collect(),
     };
-    Rules { answer, text, first_ring: walk.first_ring, hidden }
+    Rules { answer, text, first_departure: walk.first_departure, hidden }
 }
 
 /// What is expected where the original has this outcome, and document 01's rules give that.
 pub fn explain(outcome: Outcome, panicked: Option<&'static str>, rules: Rules) -> Result<Expected, String> {
-    let Rules { answer: by_rules, text: rules_text, first_ring, hidden } = rules;
+    let Rules { answer: by_rules, text: rules_text, first_departure, hidden } = rules;
     let marked = hidden.marked.len();
     let hidden = if by_rules == 0 { hidden } else { Hidden::default() };
     let (judge, text) = match outcome {
@@ -155,13 +159,21 @@ pub fn explain(outcome: Outcome, panicked: Option<&'static str>, rules: Rules) -
             (Judge::Panic(named, panicked.unwrap_or_default()), format!("answer={answer},{node}\n"))
         }
         Outcome::Outside(Outside::Ring(node)) => {
-            if first_ring != Some(node) {
-                return Err(format!("the source reaches a ring at node {node}, the rules at {first_ring:?}"));
+            if first_departure != Some((Departure::Ring, node)) {
+                return Err(format!("the source reaches a ring at node {node}, the rules: {first_departure:?}"));
             }
             (Judge::Rules(Named::Rings), rules_text)
         }
+        Outcome::Outside(Outside::Roles(node)) => {
+            if first_departure != Some((Departure::Roles, node)) {
+                return Err(format!(
+                    "the source sets a number variable against a Regular one at node {node}, the rules: {first_departure:?}"
+                ));
+            }
+            (Judge::Rules(Named::Roles), rules_text)
+        }
         Outcome::Outside(Outside::Inside(node)) => {
-            if first_ring.is_some() || rules_text != format!("answer=12,{node}\n") {
+            if first_departure.is_some() || rules_text != format!("answer=12,{node}\n") {
                 return Err(format!(
                     "the source binds a variable inside itself at node {node}, the rules: {rules_text}"
                 ));

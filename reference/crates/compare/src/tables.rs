@@ -12,17 +12,15 @@ const INPUTS_FROM: usize = 20_480;
 /// What the tables have and a report does not show.
 #[derive(Clone, PartialEq, Eq, Debug, Default)]
 pub struct Hidden {
-    /// Expected, got, and how it ended: 0, or the cause of a mismatch.
+    /// Expected, got, and how it ended: 0, or 1 for a mismatch.
     pub equations: Vec<[usize; 3]>,
     /// The variables with a negation mark.
     pub marked: Vec<usize>,
 }
 
 pub fn hidden(checked: &Checked) -> Hidden {
-    let equation = |e: Equation| {
-        let ended = cause(e.outcome).unwrap_or(Cause::NoEquation).number();
-        [e.expected, e.got, ended].map(usize::from)
-    };
+    let equation =
+        |e: Equation| [usize::from(e.expected), usize::from(e.got), usize::from(e.outcome == Outcome::Mismatch)];
     let marked = checked.vars().enumerate().filter(|(_, var)| var.marked);
     Hidden { equations: checked.equations().map(equation).collect(), marked: marked.map(|(v, _)| v).collect() }
 }
@@ -63,19 +61,12 @@ pub fn faults(checked: &Checked, body: &[u8], text: &[u8]) -> Vec<String> {
     if views.as_bytes() != text {
         faults.push(format!("the views give another report than the text:\n{views}"));
     }
-    let failed: Vec<Cause> = checked.equations().filter_map(|e| cause(e.outcome)).collect();
-    let raised: Vec<Cause> = checked.errors().map(|e| e.cause).filter(|c| *c != Cause::NoEquation).collect();
+    let failed = checked.equations().filter(|e| e.outcome == Outcome::Mismatch).count();
+    let raised = checked.errors().filter(|e| e.cause == Cause::Mismatch).count();
     if counts.equations * 3 > tables.log.len() || failed != raised {
-        faults.push(format!("the equations fail with {failed:?}, the errors have {raised:?}"));
+        faults.push(format!("{failed} equations fail, and {raised} errors are theirs"));
     }
     faults
-}
-
-fn cause(outcome: Outcome) -> Option<Cause> {
-    match outcome {
-        Outcome::Success => None,
-        Outcome::Mismatch(cause) => Some(cause),
-    }
 }
 
 /// How many inputs the made types have.

@@ -4,7 +4,7 @@ mod air;
 
 use body::{Body, FIXED_TYPES};
 use lychee_middle::session::Session;
-use lychee_middle::typing::fun_cx::observe::{self, Cycle, Stopped, Wish};
+use lychee_middle::typing::fun_cx::observe::{self, Departure, Stopped, Wish};
 use lychee_middle::typing::fun_cx::typeck_observed;
 use lychee_util::arena::Arena;
 use lychee_util::def::DefId;
@@ -46,6 +46,8 @@ pub enum Outside {
     Ring(usize),
     /// A variable was to be bound inside itself in the rule of this node; the source does that.
     Inside(usize),
+    /// An integer or float variable was expected against a Regular one in the rule of this node; the source fails.
+    Roles(usize),
     /// The guard ended the run: marks that grow, or a walk that does not end.
     Endless,
 }
@@ -58,6 +60,7 @@ impl Outcome {
             Outcome::Refused(answer, node) => format!("answer={answer},{node}\n"),
             Outcome::Outside(Outside::Ring(node)) => format!("outside=ring,{node}\n"),
             Outcome::Outside(Outside::Inside(node)) => format!("outside=inside,{node}\n"),
+            Outcome::Outside(Outside::Roles(node)) => format!("outside=roles,{node}\n"),
             Outcome::Outside(Outside::Endless) => "outside=endless\n".to_string(),
             Outcome::Panic(message) => format!("panic: {message}\n"),
         }
@@ -67,7 +70,7 @@ impl Outcome {
 /// What is wanted of a run.
 #[derive(Clone, Copy, Default)]
 pub struct Want {
-    /// The source goes on behind a ring or a variable inside itself, and a panic stays one.
+    /// The source goes on behind a ring, a variable inside itself or roles that it does not exchange, and a panic stays one.
     pub source: bool,
     /// Each entry of `unify` is kept.
     pub entries: bool,
@@ -129,8 +132,9 @@ fn walk(
     let outcome = match result {
         Ok(()) => Outcome::Report(text),
         Err(thrown) if thrown.is::<Endless>() => Outcome::Outside(Outside::Endless),
-        Err(thrown) if thrown.is::<Stopped>() => match observe::first_cycle() {
-            Some((Cycle::Ring, _)) => Outcome::Outside(Outside::Ring(place)),
+        Err(thrown) if thrown.is::<Stopped>() => match observe::first_departure() {
+            Some(Departure::Ring) => Outcome::Outside(Outside::Ring(place)),
+            Some(Departure::Roles) => Outcome::Outside(Outside::Roles(place)),
             _ => Outcome::Outside(Outside::Inside(place)),
         },
         Err(thrown) => match told(&message(&*thrown)) {

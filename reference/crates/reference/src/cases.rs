@@ -4,6 +4,7 @@
 //! whole text that document 01 gives. A line `-- source` may follow, and what the source does where it is let go on.
 use crate::text;
 use original::{Outcome, Outside, Want};
+use rules::Departure;
 
 pub struct Case {
     pub name: String,
@@ -83,20 +84,21 @@ pub fn refused(r: body::Refusal) -> String {
     format!("answer={},{place}\n", r.answer)
 }
 
-/// Whether what the original gives agrees with the rules' text and with the node of their first ring. Behind a ring, and where
-/// marks grow, the original judges nothing more; that a ring was reached, and in which rule, has to agree.
-pub fn agree(outcome: &Outcome, rules: &str, first_ring: Option<usize>) -> bool {
+/// Whether what the original gives agrees with the rules' text and with their first departure. Behind a ring or exchanged roles,
+/// and where marks grow, the original judges nothing more; which of the two came first, and in which rule, has to agree.
+pub fn agree(outcome: &Outcome, rules: &str, first: Option<(Departure, usize)>) -> bool {
     match outcome {
-        Outcome::Outside(Outside::Ring(n)) => first_ring == Some(*n),
+        Outcome::Outside(Outside::Ring(n)) => first == Some((Departure::Ring, *n)),
+        Outcome::Outside(Outside::Roles(n)) => first == Some((Departure::Roles, *n)),
         Outcome::Outside(Outside::Endless) => true,
-        Outcome::Outside(Outside::Inside(n)) => first_ring.is_none() && rules == format!("answer=12,{n}\n"),
-        other => first_ring.is_none() && other.text() == rules,
+        Outcome::Outside(Outside::Inside(n)) => first.is_none() && rules == format!("answer=12,{n}\n"),
+        other => first.is_none() && other.text() == rules,
     }
 }
 
-/// The node of the rules' first ring, of bytes that the reader accepts.
-pub fn first_ring(bytes: &[u8]) -> Option<usize> {
-    body::read(bytes).ok().and_then(|b| rules::check(&b).first_ring)
+/// The rules' first departure, of bytes that the reader accepts.
+pub fn first_departure(bytes: &[u8]) -> Option<(Departure, usize)> {
+    body::read(bytes).ok().and_then(|b| rules::check(&b).first_departure)
 }
 
 /// What differs from what is expected: nothing, if the case passes.
@@ -109,9 +111,9 @@ pub fn faults(case: &Case) -> Vec<String> {
     };
     let rules = rules::report(&case.bytes);
     fault(rules == case.expected, "rules", &case.expected, &rules);
-    let (outcome, ring) = (report(&case.bytes), first_ring(&case.bytes));
-    let what = format!("original, the rules' first ring being {ring:?}");
-    fault(agree(&outcome, &case.expected, ring), &what, &case.expected, &outcome.text());
+    let (outcome, first) = (report(&case.bytes), first_departure(&case.bytes));
+    let what = format!("original, the rules' first departure being {first:?}");
+    fault(agree(&outcome, &case.expected, first), &what, &case.expected, &outcome.text());
     if let Some(source) = &case.source {
         let got = match body::read(&case.bytes) {
             Ok(b) => original::run(&b, Want { source: true, entries: false }).outcome.text(),

@@ -1,5 +1,5 @@
 //! Many generated bodies through the original and through the rules: what came of them is counted, and each difference told.
-use crate::cases::{agree, first_ring, printed, refused};
+use crate::cases::{agree, first_departure, printed, refused};
 use original::{Outcome, THREAD_STACK, Want};
 use std::collections::BTreeMap;
 use std::sync::Mutex;
@@ -78,7 +78,7 @@ fn one(seed: u64, index: u64, all: &Mutex<Counts>) {
     all.slowest[0] = all.slowest[0].max(((middle - before).as_micros(), index));
     all.slowest[1] = all.slowest[1].max(((after - middle).as_micros(), index));
 
-    if !agree(&outcome, &rules, first_ring(&bytes)) {
+    if !agree(&outcome, &rules, first_departure(&bytes)) {
         let text = format!("{}original\n{}rules\n{rules}", String::from_utf8_lossy(&bytes), outcome.text());
         all.different.push((index, text));
     }

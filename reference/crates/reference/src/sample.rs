@@ -1,5 +1,5 @@
 //! The recorded samples: bodies by hand and chosen generated ones with the reports that the original gives, and bodies whose
-//! answers rest on document 01 alone.
+//! answers rest on documents 01 and 02 alone.
 use crate::cases::Case;
 use crate::{features, text};
 use generate::Family;
@@ -61,7 +61,7 @@ pub fn files(lent: &[Case], cases: &[Case]) -> Result<Vec<(&'static str, String)
     choose(&mut seen, &mut judged);
     let long = long()?;
     println!("judged by the original: {by_hand} by hand, {} generated", judged.len() - by_hand);
-    println!("by document 01 alone: {}", rest.len());
+    println!("by documents 01 and 02 alone: {}", rest.len());
     println!("about lengths: {} by hand, {} with long reports", lent.len(), long.len());
     let missing = missing(&seen);
     if !missing.is_empty() {
@@ -245,7 +245,7 @@ impl Generated {
 fn missing(seen: &Seen) -> Vec<String> {
     let forms = "bool int float bin un field list index assign opassign if loop break call mcall return block let param \
                  lambda path";
-    let errors = "0 cause 0,0 cause 1,0 cause 2,1 cause 0,2 cause 0,3 cause 1,3 cause 2,4 cause 0,5 cause 1,5 cause 2,\
+    let errors = "0 cause 0,0 cause 1,1 cause 0,2 cause 0,3 cause 1,4 cause 0,5 cause 1,\
                   6 cause 0,7 cause 0,8 cause 0,9 cause 0,10 cause 0";
     let refusals = "10 str,10 path o,10 path l failed,10 path f failed,10 path c failed,10 path o failed,10 RESOLVED,\
                     10 last segment o,11 path l,11 last segment l,13 ";
@@ -296,8 +296,8 @@ const HEAD: &str = "\
 ";
 
 const SECOND: &str = "\
-# From here on the answers rest on document 01 alone: refusals 1 and 3 to 6, rings, variables inside themselves. The reason of each
-# stands with it in reference/bodies.
+# From here on the answers rest on documents 01 and 02 alone: refusals 1 and 3 to 6, rings, variables inside themselves, exchanged roles.
+# The reason of each stands with it in reference/bodies.
 ";
 
 const THIRD: &str = "\

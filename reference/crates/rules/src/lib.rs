@@ -7,7 +7,7 @@ pub mod types;
 pub mod unify;
 pub mod walk;
 
-pub use unify::Outcome;
+pub use unify::{Departure, Outcome};
 pub use walk::Equation;
 
 use body::Body;
@@ -25,9 +25,10 @@ pub struct Checked {
     pub place: Option<usize>,
     /// The whole report, however long, or the answer line alone.
     pub text: String,
-    /// How many equations, or steps of them, succeeded by the ring rule, and the node in whose rule the first did.
+    /// How many equations, or steps of them, succeeded by the ring rule.
     pub rings: usize,
-    pub first_ring: Option<usize>,
+    /// The first departure from the source, and the node in whose rule it was.
+    pub first_departure: Option<(Departure, usize)>,
     /// The equations of the body, in order, a refused one included.
     pub equations: Vec<Equation>,
 }
@@ -39,7 +40,14 @@ pub fn check(body: &Body) -> Checked {
         Ok(finals) => (0, None, print::report(&walk, &finals)),
         Err(Refused { answer, place }) => (answer, Some(place), print::answer(answer, Some(place))),
     };
-    Checked { answer, place, text, rings: walk.variables.rings, first_ring: walk.first_ring, equations: walk.equations }
+    Checked {
+        answer,
+        place,
+        text,
+        rings: walk.variables.rings,
+        first_departure: walk.first_departure,
+        equations: walk.equations,
+    }
 }
 
 /// "A body's equations are those its walk raises under these rules, in order".

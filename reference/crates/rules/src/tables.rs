@@ -230,7 +230,7 @@ fn log(walk: &Walk<'_>, cells: usize) -> Vec<usize> {
     let row = |equation: &Equation| {
         let answer = match equation.outcome {
             Outcome::Success => 0,
-            Outcome::Mismatch { cause } => usize::from(cause),
+            Outcome::Mismatch => 1,
             Outcome::Refused12 => 12,
             Outcome::Refused13 => 13,
         };

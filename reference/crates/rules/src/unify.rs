@@ -23,10 +23,8 @@ pub struct Variable {
 #[derive(Debug, Clone, Copy, PartialEq, Eq)]
 pub enum Outcome {
     Success,
-    /// CAUSE 2 is kind order, 1 any other.
-    Mismatch {
-        cause: u8,
-    },
+    /// CAUSE 1.
+    Mismatch,
     /// 12: the variable would stand inside its own binding.
     Refused12,
     /// 13: a marked variable against a type that is not Int.
@@ -42,11 +40,21 @@ enum Next {
 
 const SUCCESS: Option<Next> = Some(Next::End(Outcome::Success));
 
-/// All variables drawn so far, and how often the ring rule gave success.
+/// What the rules do and the source does not, and the walk goes on.
+#[derive(Debug, Clone, Copy, PartialEq, Eq)]
+pub enum Departure {
+    /// The ring rule gave success.
+    Ring,
+    /// The roles of an integer or float variable and a Regular one were exchanged, document 02 e).
+    Roles,
+}
+
+/// All variables drawn so far, how often the ring rule gave success, and the first departure.
 #[derive(Debug, Default)]
 pub struct Variables {
     pub rows: Vec<Variable>,
     pub rings: usize,
+    pub first_departure: Option<Departure>,
 }
 
 impl Variables {
@@ -72,17 +80,21 @@ impl Variables {
         }
     }
 
-    /// "3. A variable on either side, the expected one first."
+    /// "3. A variable on either side, the expected one first." Document 02 e): where an integer or float variable meets a Regular
+    /// variable, on either side, "the Regular one is treated as the variable of that step".
     fn step_3(&mut self, pool: &Pool, expected: usize, got: usize) -> Option<Next> {
         let (this, other) = match (pool.variable(expected), pool.variable(got)) {
+            (Some(number), Some(this)) if self.rows[number].kind != Kind::Any && self.rows[this].kind == Kind::Any => {
+                self.first_departure.get_or_insert(Departure::Roles);
+                (this, expected)
+            }
             (Some(this), _) => (this, got),
             (None, Some(this)) => (this, expected),
             (None, None) => return None,
         };
         // "Integer against not integer-like ..., or float against not float-like ...: mismatch."
         if !self.kind_admits(pool, self.rows[this].kind, other) {
-            let cause = self.cause_against(pool, other);
-            return Some(Next::End(Outcome::Mismatch { cause }));
+            return Some(Next::End(Outcome::Mismatch));
         }
         // "The same variable: success."
         if pool.variable(other) == Some(this) {
@@ -99,6 +111,7 @@ impl Variables {
         // "If following bindings from the other side ends at this variable (a ring): success, nothing bound".
         if pool.variable(self.end(pool, other)) == Some(this) {
             self.rings += 1;
+            self.first_departure.get_or_insert(Departure::Ring);
             return SUCCESS;
         }
         // "If it would stand inside its own binding ...: refused 12".
@@ -117,14 +130,6 @@ impl Variables {
             (kind, Type::Var(variable)) => self.rows[*variable].kind == kind,
             (Kind::Int, ty) => matches!(ty, Type::Int(_) | Type::Uint(_)),
             (Kind::Float, ty) => matches!(ty, Type::Float | Type::Double),
-        }
-    }
-
-    /// "cause is 2 (kind order) if step 3 set an integer or float variable against a Regular variable".
-    fn cause_against(&self, pool: &Pool, other: usize) -> u8 {
-        match pool.variable(other) {
-            Some(variable) if self.rows[variable].kind == Kind::Any => 2,
-            _ => 1,
         }
     }
 
@@ -188,7 +193,7 @@ impl Variables {
             return Some(Next::End(outputs));
         }
         if inputs.len() != lambda_inputs.len() {
-            return Some(Next::End(Outcome::Mismatch { cause: 1 }));
+            return Some(Next::End(Outcome::Mismatch));
         }
         for (input, lambda_input) in inputs.iter().zip(lambda_inputs.iter()) {
             let outcome = self.unify(pool, *input, *lambda_input);
@@ -227,6 +232,6 @@ fn step_2(pool: &Pool, expected: usize, got: usize) -> Option<Next> {
 fn step_5(pool: &Pool, expected: usize, got: usize) -> Next {
     Next::End(match (pool.get(expected), pool.get(got)) {
         (Type::Error, _) | (_, Type::Error) => Outcome::Success,
-        _ => Outcome::Mismatch { cause: 1 },
+        _ => Outcome::Mismatch,
     })
 }

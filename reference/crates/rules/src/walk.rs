@@ -1,6 +1,6 @@
 //! The walk: one typing rule for each kind of node, as in fun_cx.rs, over one running record.
 use crate::types::{BOOL, DIVERGES, ERR, NIL, Pool, Type, U64};
-use crate::unify::{Kind, Outcome, Variables};
+use crate::unify::{Departure, Kind, Outcome, Variables};
 use body::{Bin, Body, Node, Res, Un};
 use std::rc::Rc;
 
@@ -81,8 +81,8 @@ pub struct Walk<'a> {
     pub extra: Vec<Extra>,
     pub errors: Vec<ErrorRow>,
     pub equations: Vec<Equation>,
-    /// The node in whose rule the ring rule gave success first.
-    pub first_ring: Option<usize>,
+    /// The first departure from the source, and the node in whose rule it was.
+    pub first_departure: Option<(Departure, usize)>,
 }
 
 impl<'a> Walk<'a> {
@@ -96,7 +96,7 @@ impl<'a> Walk<'a> {
             extra: vec![Extra::Absent; body.nodes.len()],
             errors: Vec::new(),
             equations: Vec::new(),
-            first_ring: None,
+            first_departure: None,
         };
         for &param in &body.params {
             if let Node::Param(ty) = body.nodes[param] {
@@ -458,16 +458,16 @@ impl<'a> Walk<'a> {
         self.pool.intern(Type::Var(variable))
     }
 
-    /// Raises an equation in the rule of a node; the cause if it mismatches.
+    /// Raises an equation in the rule of a node; the cause, 1, if it mismatches.
     pub fn equation(&mut self, place: usize, expected: usize, got: usize) -> Result<Option<u8>, Refused> {
         let outcome = self.variables.unify(&self.pool, expected, got);
-        if self.variables.rings > 0 {
-            self.first_ring.get_or_insert(place);
+        if let Some(first) = self.variables.first_departure {
+            self.first_departure.get_or_insert((first, place));
         }
         self.equations.push(Equation { place, expected, got, outcome });
         match outcome {
             Outcome::Success => Ok(None),
-            Outcome::Mismatch { cause } => Ok(Some(cause)),
+            Outcome::Mismatch => Ok(Some(1)),
             Outcome::Refused12 => Err(refused(12, place)),
             Outcome::Refused13 => Err(refused(13, place)),
         }

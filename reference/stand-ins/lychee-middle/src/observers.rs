@@ -1,20 +1,23 @@
-//! What is seen of a run: the node in progress, each entry of `unify`, and the first cycle.
+//! What is seen of a run: the node in progress, each entry of `unify`, and the first departure from the rules.
 use super::super::*;
 use super::{Branch, branch, report};
 use lychee_util::recorder::{NOTE, Note, RECORDS};
 use std::cell::{Cell, RefCell};
 use std::collections::HashSet;
 
-/// A binding that the source makes and document 01 does not.
+/// What the source does otherwise than the rules, and goes on: a binding that it makes and document 01 does not, or an equation
+/// that it fails and document 02 e) does not.
 #[derive(Clone, Copy, PartialEq, Eq, Debug)]
-pub enum Cycle {
+pub enum Departure {
     /// From the other side the bindings lead to the variable itself.
     Ring,
     /// The variable stands inside its binding.
     Inside,
+    /// An integer or float variable is expected against a Regular one, and the roles are not exchanged.
+    Roles,
 }
 
-/// Thrown at the first such binding, where the walk is to end there.
+/// Thrown at the first departure, where the walk is to end there.
 pub struct Stopped;
 
 /// One entry of `unify`, inner ones too.
@@ -28,11 +31,11 @@ pub struct Entry {
 
 #[derive(Clone, Copy)]
 pub struct Wish {
-    /// The walk ends at the first cycle.
+    /// The walk ends at the first departure.
     pub stop: bool,
     /// Each entry of `unify` is kept.
     pub entries: bool,
-    /// Steps that a run may take after its first cycle.
+    /// Steps that a run may take after it has bound a first cycle.
     pub steps_after: u64,
 }
 
@@ -40,7 +43,9 @@ thread_local! {
     static WISH: Cell<Wish> = const { Cell::new(Wish { stop: true, entries: false, steps_after: 0 }) };
     /// The nodes whose rules run, the innermost last; those already typed are dropped late.
     static RUNNING: RefCell<Vec<AirId>> = const { RefCell::new(Vec::new()) };
-    static FIRST_CYCLE: Cell<Option<(Cycle, Option<u32>)>> = const { Cell::new(None) };
+    static FIRST_DEPARTURE: Cell<Option<Departure>> = const { Cell::new(None) };
+    /// Whether a cycle was bound.
+    static CYCLE: Cell<bool> = const { Cell::new(false) };
     static ENTRIES: RefCell<Vec<Entry>> = const { RefCell::new(Vec::new()) };
 }
 
@@ -48,16 +53,17 @@ thread_local! {
 pub fn start(wish: Wish) {
     WISH.set(wish);
     RUNNING.with_borrow_mut(Vec::clear);
-    FIRST_CYCLE.set(None);
+    FIRST_DEPARTURE.set(None);
+    CYCLE.set(false);
     ENTRIES.with_borrow_mut(Vec::clear);
     RECORDS.with_borrow_mut(Vec::clear);
     NOTE.set(Note { cause: 0, fails: false });
     branch::start();
 }
 
-/// The first cycle, and the node whose rule ran.
-pub fn first_cycle() -> Option<(Cycle, Option<u32>)> {
-    FIRST_CYCLE.get()
+/// The first departure from the rules.
+pub fn first_departure() -> Option<Departure> {
+    FIRST_DEPARTURE.get()
 }
 
 /// The node whose rule ran last; none for the equation of declared and actual result.
@@ -91,19 +97,21 @@ pub fn enter(cx: &FunCx<'_>, id: AirId) {
 
 /// At each entry of `unify`. A failed call returns through all its callers at once. So when an error is raised, the call
 /// entered last is the one that failed, or the last of an output before unequal lengths. An integer or float variable against
-/// a Regular one always fails; so cause 2 is that pair entered last, and any other is cause 1.
+/// a Regular one always fails, where the rules exchange the roles.
 pub fn unify<'ty>(cx: &FunCx<'ty>, expected: Ty<'ty>, got: Ty<'ty>) {
     settle(cx);
-    let cause = match (*expected.0.peek(), *got.0.peek()) {
-        (TyKind::InferTy(l), TyKind::InferTy(r)) if l.kind != InferKind::Regular && r.kind == InferKind::Regular => 2,
-        _ => 1,
-    };
     let fails = branch::take(cx, expected, got);
-    NOTE.set(Note { cause, fails });
+    NOTE.set(Note { cause: 1, fails });
     if WISH.get().entries {
         let number = report::numbers(cx.s);
         let entry = Entry { place: place(), expected: number(expected), got: number(got) };
         ENTRIES.with_borrow_mut(|e| e.push(entry));
+    }
+    if let (TyKind::InferTy(l), TyKind::InferTy(r)) = (*expected.0.peek(), *got.0.peek())
+        && l.kind != InferKind::Regular
+        && r.kind == InferKind::Regular
+    {
+        depart(Departure::Roles);
     }
 }
 
@@ -150,18 +158,26 @@ fn stands_in<'ty>(cx: &FunCx<'ty>, v: InferId, t: Ty<'ty>) -> bool {
 
 /// Just before a variable is bound.
 pub fn bind<'ty>(cx: &FunCx<'ty>, infer: InferTy, concrete: TyKind<'ty>) {
-    if FIRST_CYCLE.get().is_some() {
+    if CYCLE.get() {
         return;
     }
-    let cycle = match follow(cx, concrete) {
-        Some(TyKind::InferTy(i)) if i.vid == infer.vid => Cycle::Ring,
+    let departure = match follow(cx, concrete) {
+        Some(TyKind::InferTy(i)) if i.vid == infer.vid => Departure::Ring,
         // The caller has pooled `concrete`, so nothing is made here.
-        _ if stands_in(cx, infer.vid, cx.s.intern_ty(concrete)) => Cycle::Inside,
+        _ if stands_in(cx, infer.vid, cx.s.intern_ty(concrete)) => Departure::Inside,
         _ => return,
     };
-    FIRST_CYCLE.set(Some((cycle, place())));
+    CYCLE.set(true);
+    depart(departure);
     // A run that does not end shows within far fewer steps from here on than a long one has.
     lychee_util::pooled::tighten_guard(WISH.get().steps_after);
+}
+
+/// The first departure ends the walk, if it is to end there.
+fn depart(departure: Departure) {
+    if FIRST_DEPARTURE.get().is_none() {
+        FIRST_DEPARTURE.set(Some(departure));
+    }
     if WISH.get().stop {
         std::panic::panic_any(Stopped);
     }

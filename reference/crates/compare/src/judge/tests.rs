@@ -37,10 +37,11 @@ fn the_bodies_of_the_differences_are_judged_under_their_names() {
     hide_panics_of_the_source();
     let by_hand = cases(DIFFERENCES);
     let marks = cases(HAND).into_iter().find(|(name, ..)| *name == "marks-growth").unwrap();
-    assert_eq!(by_hand.len(), 13);
+    assert_eq!(by_hand.len(), 15);
     for (name, body, text) in by_hand.into_iter().chain([marks]) {
         let judge = match name {
             "difference-ring" => Judge::Rules(Named::Rings),
+            "difference-roles" | "difference-roles-call" => Judge::Rules(Named::Roles),
             "difference-10-str" | "difference-10-partly-failed" => Judge::Panic(Named::Refusal10, "todo!"),
             "difference-10-other" | "difference-10-last-segment" => Judge::Panic(Named::Refusal10, "unreachable!"),
             "difference-10-resolved" => Judge::Panic(Named::Refusal10, "index"),
@@ -116,6 +117,7 @@ fn another_answer_or_place_is_told() {
     for judge in [
         Judge::Panic(Named::Refusal10, "todo!"),
         Judge::Rules(Named::Rings),
+        Judge::Rules(Named::Roles),
         Judge::Rules(Named::Refusal12),
         Judge::Rules(Named::Marks),
         Judge::Reader,
@@ -166,23 +168,32 @@ fn another_reader_is_told() {
 #[test]
 fn what_no_section_explains_is_told() {
     let marks = |count| Hidden { equations: vec![], marked: (0..count).collect() };
-    let rules = |answer, text: &str, first_ring, marked| Rules {
+    let rules = |answer, text: &str, first_departure, marked| Rules {
         answer,
         text: text.to_string(),
-        first_ring,
+        first_departure,
         hidden: marks(marked),
     };
+    let (ring_at, roles_at) = (|node| Some((Departure::Ring, node)), |node| Some((Departure::Roles, node)));
     let outside = |of, rules| explain(Outcome::Outside(of), None, rules);
 
-    let ring = outside(Outside::Ring(5), rules(0, REPORT, Some(5), 1)).unwrap();
+    let ring = outside(Outside::Ring(5), rules(0, REPORT, ring_at(5), 1)).unwrap();
     assert_eq!(ring, Expected { judge: Judge::Rules(Named::Rings), text: REPORT.to_string(), hidden: marks(1) });
-    outside(Outside::Ring(5), rules(0, REPORT, Some(4), 1)).unwrap_err();
+    outside(Outside::Ring(5), rules(0, REPORT, ring_at(4), 1)).unwrap_err();
+    outside(Outside::Ring(5), rules(0, REPORT, roles_at(5), 1)).unwrap_err();
     outside(Outside::Ring(5), rules(0, REPORT, None, 1)).unwrap_err();
+
+    let roles = outside(Outside::Roles(5), rules(0, REPORT, roles_at(5), 1)).unwrap();
+    assert_eq!(roles, Expected { judge: Judge::Rules(Named::Roles), text: REPORT.to_string(), hidden: marks(1) });
+    outside(Outside::Roles(5), rules(0, REPORT, roles_at(4), 1)).unwrap_err();
+    outside(Outside::Roles(5), rules(0, REPORT, ring_at(5), 1)).unwrap_err();
+    outside(Outside::Roles(5), rules(0, REPORT, None, 1)).unwrap_err();
 
     let inside = outside(Outside::Inside(5), rules(12, "answer=12,5\n", None, 1)).unwrap();
     assert_eq!((inside.judge, inside.hidden), (Judge::Rules(Named::Refusal12), Hidden::default()));
     outside(Outside::Inside(5), rules(12, "answer=12,4\n", None, 1)).unwrap_err();
-    outside(Outside::Inside(5), rules(12, "answer=12,5\n", Some(4), 1)).unwrap_err();
+    outside(Outside::Inside(5), rules(12, "answer=12,5\n", ring_at(4), 1)).unwrap_err();
+    outside(Outside::Inside(5), rules(12, "answer=12,5\n", roles_at(4), 1)).unwrap_err();
     outside(Outside::Inside(5), rules(0, REPORT, None, 1)).unwrap_err();
 
     let endless = outside(Outside::Endless, rules(0, REPORT, None, 2)).unwrap();
