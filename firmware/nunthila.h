@@ -209,9 +209,8 @@ enum {
     NUNTHILA_INFER_FAIL = 10           /* none */
 };
 enum {
-    NUNTHILA_CAUSE_NONE = 0,      /* no equation raised the error */
-    NUNTHILA_CAUSE_OTHER = 1,     /* two types that differ */
-    NUNTHILA_CAUSE_KIND_ORDER = 2 /* an integer or float variable set against a variable of any type */
+    NUNTHILA_CAUSE_NONE = 0,    /* no equation raised the error */
+    NUNTHILA_CAUSE_MISMATCH = 1 /* an equation that failed raised it */
 };
 enum { NUNTHILA_SPAN_NODE = 0, NUNTHILA_SPAN_BIND_ITEM = 1, NUNTHILA_SPAN_SIGNATURE = 2 };
 
@@ -222,7 +221,7 @@ enum { NUNTHILA_SPAN_NODE = 0, NUNTHILA_SPAN_BIND_ITEM = 1, NUNTHILA_SPAN_SIGNAT
 enum {
     NUNTHILA_EQUATION_EXPECTED = 0,
     NUNTHILA_EQUATION_GOT = 1,
-    NUNTHILA_EQUATION_OUTCOME = 2 /* 0 success, else the cause of the mismatch */
+    NUNTHILA_EQUATION_OUTCOME = 2 /* 0 success, 1 mismatch */
 };
 
 /* ---- functions ---- */

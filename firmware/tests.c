@@ -247,7 +247,7 @@ static void judge_checked(void) {
 
     good = 1;
     for (i = 0; i < told[NUNTHILA_TOLD_ERRORS]; i++)
-        good = good && errors[i].kind <= NUNTHILA_INFER_FAIL && errors[i].cause <= NUNTHILA_CAUSE_KIND_ORDER &&
+        good = good && errors[i].kind <= NUNTHILA_INFER_FAIL && errors[i].cause <= NUNTHILA_CAUSE_MISMATCH &&
                errors[i].span <= NUNTHILA_SPAN_SIGNATURE && errors[i].between <= 1;
     check(good, "errors: each has a kind, a cause and a span");
 
@@ -255,7 +255,7 @@ static void judge_checked(void) {
     for (i = 0; i < in_log; i++) {
         const uint16_t *e = log_cells + NUNTHILA_EQUATION_CELLS * i;
         good = good && e[NUNTHILA_EQUATION_EXPECTED] < top && e[NUNTHILA_EQUATION_GOT] < top &&
-               e[NUNTHILA_EQUATION_OUTCOME] <= NUNTHILA_CAUSE_KIND_ORDER;
+               e[NUNTHILA_EQUATION_OUTCOME] <= NUNTHILA_CAUSE_MISMATCH;
     }
     check(good, "log: each equation has two types and an outcome");
 }
@@ -540,16 +540,16 @@ static const char methods_text[] =
     "node=1,1,1\nnode=8,8,l0\nnode=0,0,2\nnode=1,1,-\nnode=-,-,-\nnode=12,12,-\nnode=-,-,-\nnode=12,12,-\nnode=8,8,-\n"
     "errors=3\nerror=5,1,d1,-,1,14,1\nerror=6,0,d2,-,1,0\nerror=9,0,8,-,1,5\n";
 
-/* Two equations that fail, by cause 1 and 2. */
+/* An equation that fails, and one whose roles are exchanged. */
 static const char quarrel[] =
     "node=param,10\nnode=param,3\nnode=path,l0,1,1:l0\nnode=path,l1,1,2:l1\nnode=assign,2,3\nnode=param,-\nnode=int\n"
     "node=path,l5,1,3:l5\nnode=bin,a,6,7\nnode=lambda,-,8,5\nnode=let,-,9\nnode=path,l10,1,4:l10\nnode=path,l1,1,2:l1\n"
     "node=call,11,12\nnode=path,l0,1,1:l0\nnode=block,14,4,10,13\nfn=10,15,0,1\n";
 static const char quarrel_text[] =
-    "answer=0,-\ntypes=4\ntype=var,0\ntype=var,1\ntype=var,2\ntype=lambda,9,15,14\nvars=3\nvar=any,3,5\nvar=any,12,9\n"
-    "var=int,-,-\nnode=10,10,-\nnode=3,3,-\nnode=10,10,l0\nnode=3,3,l1\nnode=0,0,-\nnode=14,3,-\nnode=16,9,-\nnode=14,3,l5\n"
-    "node=12,12,-\nnode=17,17,-\nnode=17,17,17\nnode=17,17,l10\nnode=3,3,l1\nnode=15,12,-\nnode=10,10,l0\nnode=10,10,-\n"
-    "errors=2\nerror=0,1,2,3,10,3\nerror=3,2,6,7,16,14\n";
+    "answer=0,-\ntypes=4\ntype=var,0\ntype=var,1\ntype=var,2\ntype=lambda,9,15,14\nvars=3\nvar=any,16,5\n"
+    "var=any,16,9\nvar=int,3,-\nnode=10,10,-\nnode=3,3,-\nnode=10,10,l0\nnode=3,3,l1\nnode=0,0,-\nnode=14,3,-\n"
+    "node=16,3,-\nnode=14,3,l5\nnode=16,3,-\nnode=17,17,-\nnode=17,17,17\nnode=17,17,l10\nnode=3,3,l1\nnode=15,3,-\n"
+    "node=10,10,l0\nnode=10,10,-\nerrors=1\nerror=0,1,2,3,10,3\n";
 
 /* Refused 12 and 13. */
 static const char inside[] = "node=let,-,-\nnode=path,l0,1,1:l0\nnode=path,l0,1,1:l0\nnode=list,2\nnode=assign,1,3\n"
@@ -729,7 +729,7 @@ static void cells_by_hand(void) {
     static const uint16_t want_log[2 * 3] = {15, 8, 0, 0, 0, 0};
     static const size_t want_told[NUNTHILA_TOLD] = {0, 0, 0, 0, 0, 0, 0, 9, 19, 4, 3, 2, 2, 0};
     static const size_t want_keys[NUNTHILA_TOLD] = {0, 0, 0, 2, 3, 1, 1, 17, 51, 6, 4, 0, 7, 0};
-    static const uint16_t want_quarrel[5 * 3] = {10, 3, 1, 16, 14, 2, 15, 12, 0, 14, 3, 0, 10, 10, 0};
+    static const uint16_t want_quarrel[5 * 3] = {10, 3, 1, 16, 14, 0, 15, 16, 0, 14, 3, 0, 10, 10, 0};
     int which;
 
     set_text(lambda);

@@ -217,8 +217,8 @@ static size_t either(int report, SLICES, uint8_t *out, size_t out_len, size_t *t
     for (i = 0; i < log_len / 3; i++) {
         if (f == 72 && log[3 * i + 2] != 0)
             log[3 * i + 2] = 0;
-        if (f == 73 && log[3 * i + 2] == 2)
-            log[3 * i + 2] = 1;
+        if (f == 73 && log[3 * i + 2] == 1)
+            log[3 * i + 2] = 2;
     }
     if (f == 74 && report)
         rows[NUNTHILA_ROW_CELLS * NUNTHILA_FIRST_FN] = 28;

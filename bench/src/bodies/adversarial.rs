@@ -274,11 +274,12 @@ fn arrays_bound() -> Vec<u8> {
     s.finish()
 }
 
-/// Lists of an integer and open Regular variables: each item mismatches (kind order) and cannot be inferred, and each list
-/// mismatches in the list around it.
+/// Lists of an integer and arrays of an open variable: each item mismatches and cannot be inferred, and each list mismatches
+/// in the list around it.
 fn errors() -> Vec<u8> {
     let mut s = Statements::new();
-    let open = s.state(Node::Let(None, None));
+    let empty = s.emit(Node::List(vec![]));
+    let open = s.state(Node::Let(None, Some(empty)));
     let mut lists = vec![s.emit(Node::Int)];
     // The outer list and the block.
     while s.draft.nodes.len() + 4 + 2 <= NODES {

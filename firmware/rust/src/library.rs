@@ -7,7 +7,7 @@ use crate::checker::{Lent, TOLD};
 pub struct ErrorRow {
     /// Number of the kind.
     pub kind: u16,
-    /// 0 no equation raised it, 1 or 2 the cause of a mismatch.
+    /// 0 no equation raised it, 1 one that failed did.
     pub cause: u16,
     /// What `at` numbers: 0 a node, 1 a bind item by its definition, 2 the signature.
     pub span: u16,

@@ -94,15 +94,13 @@ pub struct Var {
     pub marked: bool,
 }
 
-/// Why an equation failed.
+/// Whether an equation raised an error.
 #[derive(Clone, Copy, Debug, PartialEq, Eq)]
 pub enum Cause {
-    /// No equation raised the error.
+    /// No equation raised it.
     NoEquation,
-    /// The two types differ.
-    Other,
-    /// Kind order: an integer or float variable was set against a variable of any type.
-    KindOrder,
+    /// An equation that failed raised it.
+    Mismatch,
 }
 
 impl Cause {
@@ -110,8 +108,7 @@ impl Cause {
     pub const fn number(self) -> u16 {
         match self {
             Self::NoEquation => 0,
-            Self::Other => 1,
-            Self::KindOrder => 2,
+            Self::Mismatch => 1,
         }
     }
 }
@@ -213,7 +210,7 @@ impl Deref for Values {
 pub struct TypingError {
     /// Its kind.
     pub kind: ErrorKind,
-    /// Why the equation behind it failed.
+    /// Whether an equation raised it.
     pub cause: Cause,
     /// Where it is, or from where on.
     pub span: Span,
@@ -228,8 +225,8 @@ pub struct TypingError {
 pub enum Outcome {
     /// It succeeded.
     Success,
-    /// It failed; the cause is `Other` or `KindOrder`.
-    Mismatch(Cause),
+    /// It failed.
+    Mismatch,
 }
 
 /// An equation of two types.
@@ -297,15 +294,6 @@ pub(crate) fn var(table: &[u16], i: usize) -> Var {
     Var { kind, bound: option(c[1], c[2]), origin: option(c[3], c[4]), marked: c[5] == 1 }
 }
 
-fn cause(code: u16) -> Cause {
-    match code {
-        0 => Cause::NoEquation,
-        1 => Cause::Other,
-        2 => Cause::KindOrder,
-        other => unknown("a cause", other),
-    }
-}
-
 pub(crate) fn error(row: &ErrorRow) -> TypingError {
     let Some(&kind) = ErrorKind::ALL.get(usize::from(row.kind)) else { unknown("the kind of an error", row.kind) };
     let span = match row.span {
@@ -314,9 +302,14 @@ pub(crate) fn error(row: &ErrorRow) -> TypingError {
         2 => Span::Signature,
         other => unknown("the place of an error", other),
     };
+    let cause = match row.cause {
+        0 => Cause::NoEquation,
+        1 => Cause::Mismatch,
+        other => unknown("a cause", other),
+    };
     TypingError {
         kind,
-        cause: cause(row.cause),
+        cause,
         span,
         second: option(row.between, row.second),
         values: Values { numbers: [row.a, row.b, row.c], count: kind.values() },
@@ -327,7 +320,8 @@ pub(crate) fn equation(table: &[u16], i: usize) -> Equation {
     let c = &table[EQUATION * i..EQUATION * (i + 1)];
     let outcome = match c[2] {
         0 => Outcome::Success,
-        failed => Outcome::Mismatch(cause(failed)),
+        1 => Outcome::Mismatch,
+        other => unknown("the outcome of an equation", other),
     };
     Equation { expected: c[0], got: c[1], outcome }
 }

@@ -231,7 +231,7 @@ fn lengths_by_hand() {
             for e in reported.equations() {
                 let outcome = match e.outcome {
                     Outcome::Success => 0,
-                    Outcome::Mismatch(cause) => cause.number(),
+                    Outcome::Mismatch => 1,
                 };
                 shown += &format!("equation={},{},{outcome}\n", e.expected, e.got);
             }
