@@ -7,8 +7,8 @@ use Prim.Native.Nat.{ℕ, _+_, _≤_}
 use native.Mathlib.Omega.{arith}
 use borrow.Author.Needs.{needs}
 use lib.ListN.{length, length-append}
-use Rattle.theory.specs.Rules.{Shape, var, Kind, Out, success, mismatch, refused12, refused13, dry, Res}
-use Rattle.theory.specs.Program.{firstEqual, sane, drawn, appended, emitted, written, refused, marking, raised, pooled, internIf, interned, react, run, _>>=_, goOn, run-bind}
+use Rattle.theory.specs.Rules.{Shape, var, Kind, Out, mismatch, Res}
+use Rattle.theory.specs.Program.{firstEqual, sane, drawn, appended, emitted, written, refused, marking, raised, pooled, internIf, interned, react, react-cases, run, _>>=_, goOn, run-bind}
 use Rattle.record.specs.declared.TypingError.{TypingError}
 use Rattle.record.specs.Own.{Own}
 use Rattle.record.specs.Steps.{State, Walk}
@@ -149,11 +149,12 @@ raised-larger e g r s = record { vars = omega arith; rows = omega arith; inputs 
 
 -- an equation that is answered emits at most one error
 react-larger : (p : ℕ) (o : Out) (f : Out → TypingError) (s : State) → Larger (cost 0 0 0 1 0) s ((react p o f (λ c t. (some c, t)) s) .1)
-react-larger p success f s = larger-within (search needs) (same-larger s)
-react-larger p mismatch f s = emitted-larger (f mismatch) s
-react-larger p refused12 f s = larger-within (search needs) (refused-larger 12 p s)
-react-larger p refused13 f s = larger-within (search needs) (refused-larger 13 p s)
-react-larger p dry f s = larger-within (search needs) (refused-larger 12 p s)
+react-larger p o f s =
+    react-cases (λ (r : Option Bool × State). Larger (cost 0 0 0 1 0) s (r .1)) p o f (λ c t. (some c, t)) s
+    (larger-within (search needs) (same-larger s))
+    (emitted-larger (f mismatch) s)
+    (larger-within (search needs) (refused-larger 12 p s))
+    (larger-within (search needs) (refused-larger 13 p s))
 
 -- an equation is one more, and at most one error
 pub equated-larger : (p e g : ℕ) (r : Res) (f : Out → TypingError) (s : State) → Larger (cost 0 0 0 1 1) s ((react p (r .0) f (λ c t. (some c, t)) (raised e g r s)) .1)

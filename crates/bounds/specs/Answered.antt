@@ -4,8 +4,8 @@ use mathlib.Core.Option.{Option, none, some}
 use mathlib.Core.Bool.{Bool, true, false}
 use Prim.Native.Nat.{ℕ}
 use lib.ListN.{length}
-use Rattle.theory.specs.Rules.{Shape, Out, success, mismatch, refused12, refused13, dry, Pair}
-use Rattle.theory.specs.Program.{done, refuse, draw, intern, equate, emit, mark, read, write, clip, firstEqual, sane, drawn, appended, emitted, written, refused, marking, raised, pooled, internIf, interned, solved, react, run}
+use Rattle.theory.specs.Rules.{Shape, Out, mismatch, Pair}
+use Rattle.theory.specs.Program.{done, refuse, draw, intern, equate, emit, mark, read, write, clip, firstEqual, sane, drawn, appended, emitted, written, refused, marking, raised, pooled, internIf, interned, solved, react, react-cases, run}
 use Rattle.record.specs.declared.TypingError.{TypingError}
 use Rattle.record.specs.Steps.{State, Walk}
 
@@ -34,11 +34,7 @@ interned-stop t s = by (sane (length (s .rows)) t)
 -- what follows an equation
 react-told : {A : Type 0} (n : ℕ) (o : Out) (e : Out → TypingError) (g : Bool → State → Option A × State) (s : State) → s .stop ≡ none → ((c : Bool) (t : State) → t .stop ≡ none → Told (g c t)) → Told (react n o e g s)
 unfolding emitted refused
-react-told n success e g s h again = again true s h
-react-told n mismatch e g s h again = again false (emitted (e mismatch) s) h
-react-told n refused12 e g s h again = (12, n, refl)
-react-told n refused13 e g s h again = (13, n, refl)
-react-told n dry e g s h again = (12, n, refl)
+react-told n o e g s h again = react-cases Told n o e g s (again true s h) (again false (emitted (e mismatch) s) h) (12, n, refl) (13, n, refl)
 
 -- a program from a state without a refusal leaves one exactly where it has no answer
 pub run-told : {A : Type 0} (p : Walk A) (s : State) → s .stop ≡ none → Told (run p s)

@@ -13,7 +13,7 @@ use lib.Dec.{ltb}
 use lib.ListN.{length, List·getD-append}
 use lib.Seq.{getD-append-add}
 use Rattle.theory.specs.Rules.{Shape, base, var, arr, ref, fn, fun, lam, err, div, nil, Kind, Out, success, mismatch, refused12, refused13, dry, row}
-use Rattle.theory.specs.Program.{done, refuse, draw, intern, equate, emit, mark, read, write, clip, firstEqual, sane, drawn, appended, emitted, written, refused, marking, raised, pooled, internIf, interned, solved, react, run, _>>=_}
+use Rattle.theory.specs.Program.{done, refuse, draw, intern, equate, emit, mark, read, write, clip, firstEqual, sane, drawn, appended, emitted, written, refused, marking, raised, pooled, internIf, interned, solved, react-cases, run, _>>=_}
 use Rattle.theory.specs.Basics.{All, all-map, clash}
 use Rattle.theory.specs.Depth.{In, Pure, pure-base, pure-fn, pure-err, pure-div, pure-array, pure-function, Functions}
 use Rattle.theory.specs.Start.{start}
@@ -90,15 +90,8 @@ module _ (l : List Shape) where
   run-more N (equate n x y e g) f s m =
       let a = clip (length (s .rows)) x in
       let b = clip (length (s .rows)) y in
-      by ((solved a b s) .0) (raised a b (solved a b s) s) m (λ c t. run-more N (g c) (f .4 c) t)
-    where
-      by : (o : Out) (t : State) → More l (t .rows) → ((c : Bool) (u : State) → More l (u .rows) → More l ((run (g c) u) .1 .rows))
-          → More l ((react n o e (λ c u. run (g c) u) t) .1 .rows)
-      by success t q again = again true t q
-      by mismatch t q again = again false (emitted (e mismatch) t) q
-      by refused12 t q again = q
-      by refused13 t q again = q
-      by dry t q again = q
+      let t = raised a b (solved a b s) s in
+      react-cases (λ r. More l (r .1 .rows)) n ((solved a b s) .0) e (λ c u. run (g c) u) t (run-more N (g true) (f .4 true) t m) (run-more N (g false) (f .4 false) (emitted (e mismatch) t) m) m m
   run-more N (emit e p) f s m = run-more N p f (emitted e s) m
   run-more N (mark v p) f s m = run-more N p f (marking v s) m
   run-more N (read g) f s m = run-more N (g s) (f s (any-state s)) s m
@@ -113,6 +106,14 @@ Behind mismatch e K s = K false (emitted (e mismatch) s)
 Behind refused12 e K s = Unit {0}
 Behind refused13 e K s = Unit {0}
 Behind dry e K s = Unit {0}
+
+-- what holds behind a success, and behind a mismatch and its error, holds behind every answer
+behind-cases : (o : Out) (e : Out → TypingError) (K : Bool → State → Type 0) (s : State) → K true s → K false (emitted (e mismatch) s) → Behind o e K s
+behind-cases success e K s met failed = met
+behind-cases mismatch e K s met failed = failed
+behind-cases refused12 e K s met failed = tt
+behind-cases refused13 e K s met failed = tt
+behind-cases dry e K s met failed = tt
 
 module _ {A : Type 0} (P : State → Type 0) where
   -- P holds of the state at each equation that running a program raises
@@ -141,14 +142,8 @@ at-confined P l h N (intern t g) f s m = at-confined P l h N (g ((interned t s) 
 at-confined P l h N (equate n x y e g) f s m =
     let a = clip (length (s .rows)) x in
     let b = clip (length (s .rows)) y in
-    (h s m, by ((solved a b s) .0) (raised a b (solved a b s) s) m (λ c t. at-confined P l h N (g c) (f .4 c) t))
-  where
-    by : (o : Out) (t : State) → More l (t .rows) → ((c : Bool) (u : State) → More l (u .rows) → AtEquations P (g c) u) → Behind o e (λ c u. AtEquations P (g c) u) t
-    by success t q again = again true t q
-    by mismatch t q again = again false (emitted (e mismatch) t) q
-    by refused12 t q again = tt
-    by refused13 t q again = tt
-    by dry t q again = tt
+    let t = raised a b (solved a b s) s in
+    (h s m, behind-cases ((solved a b s) .0) e (λ c u. AtEquations P (g c) u) t (at-confined P l h N (g true) (f .4 true) t m) (at-confined P l h N (g false) (f .4 false) (emitted (e mismatch) t) m))
 at-confined P l h N (emit e p) f s m = at-confined P l h N p f (emitted e s) m
 at-confined P l h N (mark v p) f s m = at-confined P l h N p f (marking v s) m
 at-confined P l h N (read g) f s m = at-confined P l h N (g s) (f s (any-state s)) s m

@@ -5,8 +5,8 @@ use mathlib.Core.Option.{Option, none, some}
 use mathlib.Core.Bool.{Bool, true, false}
 use Prim.Native.Nat.{ℕ}
 use lib.ListN.{length}
-use Rattle.theory.specs.Rules.{Out, success, mismatch, refused12, refused13, dry, Pair}
-use Rattle.theory.specs.Program.{done, refuse, draw, intern, equate, emit, mark, read, write, clip, drawn, emitted, written, refused, marking, raised, interned, solved, react, run}
+use Rattle.theory.specs.Rules.{Out, mismatch, Pair}
+use Rattle.theory.specs.Program.{done, refuse, draw, intern, equate, emit, mark, read, write, clip, drawn, emitted, written, refused, marking, raised, interned, solved, react, react-cases, run}
 use Rattle.theory.specs.Start.{start}
 use Rattle.type_table.specs.Sound.{fixed-types}
 use Rattle.refs.specs.declared.Counts.{Counts}
@@ -29,11 +29,7 @@ PlacedBy N (some r) = Placed N (r .0) (r .1)
 react-placed : {A : Type 0} (N n : ℕ) (o : Out) (e : Out → TypingError) (g : Bool → State → Option A × State) (s : State) → Placed N 12 n → Placed N 13 n → PlacedBy N (s .stop)
     → ((c : Bool) (t : State) → PlacedBy N (t .stop) → PlacedBy N ((g c t) .1 .stop)) → PlacedBy N ((react n o e g s) .1 .stop)
 unfolding emitted refused
-react-placed N n success e g s p q h again = again true s h
-react-placed N n mismatch e g s p q h again = again false (emitted (e mismatch) s) h
-react-placed N n refused12 e g s p q h again = p
-react-placed N n refused13 e g s p q h again = q
-react-placed N n dry e g s p q h again = p
+react-placed N n o e g s p q h again = react-cases (λ r. PlacedBy N (r .1 .stop)) n o e g s (again true s h) (again false (emitted (e mismatch) s) h) p q
 
 -- a program that refuses with 10 to 13 at one of N nodes leaves no other refusal
 run-placed : {A : Type 0} (N : Counts) (p : Walk A) → IsConfined N any-numbers Any p → (s : State) → PlacedBy (N .nodes) (s .stop) → PlacedBy (N .nodes) ((run p s) .1 .stop)

@@ -6,8 +6,8 @@ use mathlib.Core.Bool.{Bool, true, false}
 use Prim.Native.Nat.{ℕ, _+_, _≤_}
 use native.Mathlib.Omega.{arith}
 use lib.ListN.{length, length-append}
-use Rattle.theory.specs.Rules.{Shape, var, Kind, Out, success, mismatch, refused12, refused13, dry, Res}
-use Rattle.theory.specs.Program.{done, refuse, draw, intern, equate, emit, mark, read, write, clip, firstEqual, sane, drawn, appended, emitted, written, refused, marking, raised, pooled, internIf, interned, solved, react, run, _>>=_, goOn, run-bind}
+use Rattle.theory.specs.Rules.{Shape, var, Kind, Out, mismatch, Res}
+use Rattle.theory.specs.Program.{done, refuse, draw, intern, equate, emit, mark, read, write, clip, firstEqual, sane, drawn, appended, emitted, written, refused, marking, raised, pooled, internIf, interned, solved, react, react-cases, run, _>>=_, goOn, run-bind}
 use Rattle.record.specs.declared.TypingError.{TypingError}
 use Rattle.record.specs.Own.{Own}
 use Rattle.record.specs.Steps.{State, Walk}
@@ -115,11 +115,7 @@ raised-grown e g r s = record { rows = omega arith; vars = omega arith; inputs =
 
 -- what follows an equation
 react-grown : {A : Type 0} (p : ℕ) (o : Out) (f : Out → TypingError) (k : Bool → State → Option A × State) (s : State) → ((c : Bool) (t : State) → Grown t ((k c t) .1)) → Grown s ((react p o f k s) .1)
-react-grown p success f k s h = h true s
-react-grown p mismatch f k s h = grown-trans (emitted-grown (f mismatch) s) (h false (emitted (f mismatch) s))
-react-grown p refused12 f k s h = refused-grown 12 p s
-react-grown p refused13 f k s h = refused-grown 13 p s
-react-grown p dry f k s h = refused-grown 12 p s
+react-grown p o f k s h = react-cases (λ r. Grown s (r .1)) p o f k s (h true s) (grown-trans (emitted-grown (f mismatch) s) (h false (emitted (f mismatch) s))) (refused-grown 12 p s) (refused-grown 13 p s)
 
 -- every program only adds to the tables
 pub run-grown : {A : Type 0} (p : Walk A) (s : State) → Grown s ((run p s) .1)

@@ -169,6 +169,15 @@ module _ {X Er : Type 0} where
   react p refused13 f k s = (none, refused 13 p s)
   react p dry f k s = (none, refused 12 p s)
 
+  -- what holds behind a success, behind a mismatch and its error, and of the refusals 12 and 13, holds behind every answer
+  pub react-cases : {A : Type 0} (P : Option A × St X Er → Type 0) (p : ℕ) (o : Out) (f : Out → Er) (k : Bool → St X Er → Option A × St X Er) (s : St X Er)
+      → P (k true s) → P (k false (emitted (f mismatch) s)) → P (none, refused 12 p s) → P (none, refused 13 p s) → P (react p o f k s)
+  react-cases P p success f k s met failed at-12 at-13 = met
+  react-cases P p mismatch f k s met failed at-12 at-13 = failed
+  react-cases P p refused12 f k s met failed at-12 at-13 = at-12
+  react-cases P p refused13 f k s met failed at-12 at-13 = at-13
+  react-cases P p dry f k s met failed at-12 at-13 = at-12
+
   -- what running a program does
   unfoldable pub run : {A : Type 0} → Prog X Er A → St X Er → Option A × St X Er
   run (done a) s = (some a, s)
