@@ -1,13 +1,14 @@
--- Which step the heads of plain rows and a got Diverges call for. Assumes nothing.
+-- Which step the heads of plain rows and a got Diverges call for, and where the roles of two variables are exchanged. Assumes nothing.
 use mathlib.Core.Path.{_≡_, refl, ap}
 use mathlib.Core.Logic.{_≢_, _⊎_, inl, inr}
 use mathlib.Core.Bool.{Bool, true, false, cond}
 use Prim.Native.Nat.{ℕ}
 use native.Mathlib.Decide.{ℕ-discrete}
 use lib.Dec.{eqb}
-use mathlib.Core.List.{[]}
-use Rattle.theory.specs.Rules.{Base, bool, nil, float, double, uint, int, inst, Shape, base, var, arr, ref, fn, fun, lam, err, div, base-discrete, width-discrete, success, mismatch, same, compare, left, right, differ, head, baseHead, compared, choose, roles, Act, act, go, param-head, array-head, error-head, diverges-head, infer-head, lambda-head}
-use Rattle.theory.specs.Basics.{eqb-same}
+use mathlib.Core.List.{List, []}
+use mathlib.Core.Option.{Option, none, some}
+use Rattle.theory.specs.Rules.{Base, bool, nil, float, double, uint, int, inst, Shape, base, var, arr, ref, fn, fun, lam, err, div, base-discrete, width-discrete, success, mismatch, same, compare, left, right, differ, head, baseHead, compared, choose, roles, Act, act, go, Kind, regular, integer, floating, kindFits, kind, fits, isRegular, kindsExchange, exchanged, asVar, param-head, array-head, error-head, diverges-head, infer-head, lambda-head}
+use Rattle.theory.specs.Basics.{eqb-same, clash}
 
 -- a head that step 1 compares is none that another step names
 abbrev Compared : ℕ → Type 0
@@ -83,3 +84,56 @@ choose-diverges (fun s o i) = refl
 choose-diverges (lam k o i) = refl
 choose-diverges err = refl
 choose-diverges div = refl
+
+-- ── the roles ──
+
+-- kinds that fit keep their roles
+fit-kept : (k l : Kind) → kindFits k l ≡ true → kindsExchange k l ≡ false
+fit-kept regular l e = refl
+fit-kept integer regular e = clash (cc)
+fit-kept integer integer e = refl
+fit-kept integer floating e = refl
+fit-kept floating regular e = clash (cc)
+fit-kept floating integer e = refl
+fit-kept floating floating e = refl
+
+-- where the kind test is passed, the roles are kept
+pub fits-kept : (kinds : List Kind) (v : ℕ) (s : Shape) → fits kinds (kind kinds v) s ≡ true → exchanged kinds (some v) (asVar s) ≡ false
+fits-kept kinds v (base b) e = refl
+fits-kept kinds v (var u) e = fit-kept (kind kinds v) (kind kinds u) e
+fits-kept kinds v (arr y) e = refl
+fits-kept kinds v (ref y) e = refl
+fits-kept kinds v (fn d) e = refl
+fits-kept kinds v (fun n o i) e = refl
+fits-kept kinds v (lam n o i) e = refl
+fits-kept kinds v err e = refl
+fits-kept kinds v div e = refl
+
+-- a Regular variable passes every kind test
+pub regular-fits : (kinds : List Kind) (s : Shape) → fits kinds regular s ≡ true
+regular-fits kinds (base b) = refl
+regular-fits kinds (var u) = refl
+regular-fits kinds (arr y) = refl
+regular-fits kinds (ref y) = refl
+regular-fits kinds (fn d) = refl
+regular-fits kinds (fun n o i) = refl
+regular-fits kinds (lam n o i) = refl
+regular-fits kinds err = refl
+regular-fits kinds div = refl
+
+-- a kind that a Regular variable does not fit exchanges its role with it
+pub unfit-exchanged : (k : Kind) → kindFits k regular ≡ false → kindsExchange k regular ≡ true
+unfit-exchanged regular e = clash (cc)
+unfit-exchanged integer e = refl
+unfit-exchanged floating e = refl
+
+-- against a number variable the roles are kept
+pub number-kept : (k l : Kind) → isRegular l ≡ false → kindsExchange k l ≡ false
+number-kept regular l e = refl
+number-kept integer l e = e
+number-kept floating l e = e
+
+-- and against what is no variable
+pub none-kept : (kinds : List Kind) (o : Option ℕ) → exchanged kinds o none ≡ false
+none-kept kinds none = refl
+none-kept kinds (some v) = refl

@@ -2,13 +2,11 @@
 use mathlib.Core.Path.{_≡_, refl, sym, ap, _∙_}
 use mathlib.Core.Logic.{_≢_}
 use mathlib.Core.List.{List}
-use mathlib.Core.Bool.{Bool, true, false, _&&_, _||_, true≢false}
+use mathlib.Core.Bool.{Bool, true, false, _&&_, _||_}
 use Prim.Native.Nat.{ℕ, _≤_, _<_}
 use lib.Dec.{eqb}
 use borrow.Author.Tests.{eq-eqb, ne-eqb, lt-ltb, le-ltb}
-use borrow.Author.Tests.{eqb-false as test-false}
-use Rattle.theory.specs.Basics.{and-both, eqb-true}
-use Rattle.theory.specs.Rules.{same, compare, left, right, down, swap, differ, compared, choose, var, row, kind, fits, kindFits, kindsExchange, regular, integer, floating}
+use Rattle.theory.specs.Rules.{same, compare, left, right, down, swap, differ, compared, choose, var, row, kind, fits, kindFits, regular, integer, floating}
 use Rattle.type_table.specs.declared.Counts.{Counts}
 use Rattle.type_table.specs.declared.TypeId.{TypeId}
 use Rattle.type_table.specs.declared.VarId.{VarId}
@@ -19,7 +17,7 @@ use Rattle.type_table.specs.View.{type, variable, kindCode, kindIn}
 use Rattle.unify.specs.declared.Next.the-variants.{On, Into}
 use Rattle.unify.specs.Step.{downTo}
 use Rattle.unify.specs.declared.Reply.the-variants.{Mismatch, Success}
-use Rattle.unify.specs.Leaf.{kindK, Classed, Exchanged, Signed, SameVar, Compared, code}
+use Rattle.unify.specs.Leaf.{kindK, Classed, Signed, SameVar, Compared, code}
 use Rattle.type_table.specs.Tables.{kind-at}
 use Rattle.type_table.specs.Heads.{var-row}
 use Rattle.search.specs.Bridge.{no-var-row}
@@ -48,7 +46,7 @@ module _ (m : List ℕ) (c : Counts) (z : TypeId) (h : ℕ) (p : h ≡ headAt m 
   pub class-other : (((((Unit {0} × (h ≡ 1 → ⊥)) × (h ≡ 2 → ⊥)) × (h ≡ 3 → ⊥)) × (h ≡ 4 → ⊥)) × (h ≡ 12 → ⊥)) → Classed m c z Regular
   class-other e = class-at Regular (e .1) (simp (ne-eqb h 1 (e .0 .0 .0 .0 .1), ne-eqb h 2 (e .0 .0 .0 .1), ne-eqb h 3 (e .0 .0 .1), ne-eqb h 4 (e .0 .1)))
 
-  row-var : (u : ℕ) → h ≡ 12 → u ≡ numberAt m (c .types) (z .0) → row (rowsOf m (c .types)) (z .0) ≡ var u
+  pub row-var : (u : ℕ) → h ≡ 12 → u ≡ numberAt m (c .types) (z .0) → row (rowsOf m (c .types)) (z .0) ≡ var u
   row-var u e q = var-row m (c .types) (z .0) (sym p ∙ e) ∙ ap var (sym q)
 
   pub class-var : (u : ℕ) (r : Kind) → h ≡ 12 → u ≡ numberAt m (c .types) (z .0) → r ≡ kindIn m c (variable u) → Classed m c z r
@@ -65,22 +63,6 @@ module _ (m : List ℕ) (c : Counts) (z : TypeId) (h : ℕ) (p : h ≡ headAt m 
 
   pub same-no : (v : VarId) → h ≢ 12 → SameVar m c v z false
   same-no v d = rw (no-var-row m (c .types) (z .0) (rw p at d))
-
--- ── the roles ──
-
-module _ (m : List ℕ) (c : Counts) (x y : TypeId) (h k : ℕ) (ph : h ≡ headAt m (c .types) (x .0)) (pk : k ≡ headAt m (c .types) (y .0)) (t : Bool) (pt : t ≡ (eqb h 12 && eqb k 12)) where
-  pub exchanged-vars : (v u : ℕ) (a b : Kind) (r : Bool) → t ≡ true → v ≡ numberAt m (c .types) (x .0) → u ≡ numberAt m (c .types) (y .0) → a ≡ kindIn m c (variable v) → b ≡ kindIn m c (variable u) → r ≡ kindsExchange (kindK a) (kindK b) → Exchanged m c x y r
-  exchanged-vars v u a b r e qv qu qa qb f =
-      let g = and-both (eqb h 12) (eqb k 12) (sym pt ∙ e) in
-      f ∙ rw (row-var m c x h ph v (eqb-true h 12 (g .0)) qv, row-var m c y k pk u (eqb-true k 12 (g .1)) qu, ← (kind-in m c v a qa), ← (kind-in m c u b qb))
-
-  pub exchanged-other : t ≡ false → Exchanged m c x y false
-  exchanged-other e = by (eqb h 12) (eqb k 12) refl refl (sym pt ∙ e)
-    where
-      by : (i j : Bool) → eqb h 12 ≡ i → eqb k 12 ≡ j → i && j ≡ false → Exchanged m c x y false
-      by true true p q f = absurd (true≢false f)
-      by false j p q f = rw (no-var-row m (c .types) (x .0) (rw ph at (test-false h 12 p)))
-      by true false p q f = rw (row-var m c x h ph (numberAt m (c .types) (x .0)) (eqb-true h 12 p) refl, no-var-row m (c .types) (y .0) (rw pk at (test-false k 12 q)))
 
 -- ── the choice of the step ──
 

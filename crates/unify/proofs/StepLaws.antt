@@ -1,4 +1,4 @@
--- One step: what each return of settle, chase, heed, meet, variable and step shows.
+-- One step: what each return of settle, chase, heed, meet, exchange, roles, variable and step shows.
 use mathlib.Core.Path.{_≡_, refl, sym, ap, subst, _∙_}
 use mathlib.Core.Logic.{_≢_, _⊎_, inl, inr}
 use mathlib.Core.List.{List, [], _∷_}
@@ -7,11 +7,12 @@ use mathlib.Core.Bool.{Bool, true, false, not, _&&_, _||_, cond, true≢false, f
 use Prim.Native.Nat.{ℕ}
 use native.Mathlib.Omega.{arith}
 use lib.Dec.{eqb}
-use Rattle.theory.specs.Rules.{same, compare, left, right, down, swap, differ, Out, success, mismatch, refused12, refused13, dry, Mem, Res, row, kids, asVar, kind, bound, fits, kindFits, marked, passTo, pass, exchanged, roles, choose, compared, split, atVar, act, move, perform, each, onward, andThen, heed, chase, settle}
+use Rattle.theory.specs.Rules.{same, compare, left, right, down, swap, differ, Out, success, mismatch, refused12, refused13, dry, Mem, Res, regular, isRegular, row, kids, asVar, kind, bound, fits, kindFits, marked, passTo, pass, exchanged, roles, choose, compared, split, atVar, act, move, perform, each, onward, andThen, heed, chase, settle}
 use Rattle.type_table.specs.declared.Counts.{Counts}
 use Rattle.type_table.specs.declared.TypeId.{TypeId}
 use Rattle.type_table.specs.declared.VarId.{VarId}
 use Rattle.type_table.specs.declared.Kind.{Kind}
+use Rattle.type_table.specs.declared.Kind.the-variants.{Regular}
 use Rattle.type_table.specs.declared.Bound.{Bound}
 use Rattle.type_table.specs.declared.Bound.the-variants.{To as To·B, Open}
 use Rattle.type_table.specs.Memory.{pick, headAt, numberAt, markAt, bindsOf, marksOf, memOf, Held}
@@ -23,19 +24,22 @@ use Rattle.unify.specs.declared.Decision.{Decision}
 use Rattle.unify.specs.declared.Decision.the-variants.{Same, Compare, Left, Right, Down, Swap, Differ}
 use Rattle.unify.specs.declared.Reply.{Reply}
 use Rattle.unify.specs.declared.Reply.the-variants.{Success, Mismatch, Refused12, Refused13, Dry}
+use Rattle.unify.specs.declared.Meeting.{Meeting}
+use Rattle.unify.specs.declared.Meeting.the-variants.{Of, Unfit}
 use Rattle.unify.specs.declared.Next.{Next}
 use Rattle.unify.specs.declared.Next.the-variants.{Done, On, Into}
 use Rattle.search.specs.declared.Found.{Found}
 use Rattle.search.specs.declared.Found.the-variants.{Free, Ring, Inside, Lost}
-use Rattle.unify.specs.Leaf.{kindK, stepK, Classed, Exchanged, Signed, SameVar, Compared}
+use Rattle.unify.specs.Leaf.{kindK, stepK, Classed, Signed, SameVar, Compared}
 use Rattle.search.specs.Search.{seekIn, Sought, parts}
-use Rattle.unify.specs.Step.{Rec, resume, Parted, Enterable, Settled, Chased, Heeded, unsignedIn, passedIn, Met, Varied, WithRoles, downTo, Stepped}
+use Rattle.unify.specs.Step.{Rec, resume, Parted, Enterable, Settled, Chased, Heeded, unsignedIn, passedIn, Met, HasRoles, Exchanges, Varied, downTo, Stepped}
 use Rattle.type_table.specs.Tables.{mark-at}
 use Rattle.theory.specs.Basics.{and-both, eqb-true}
+use Rattle.theory.specs.Choice.{fits-kept, regular-fits, unfit-exchanged, number-kept, none-kept}
 use Rattle.type_table.specs.Heads.{head-row, var-row}
 use Rattle.search.specs.Bridge.{bound-open, bound-some, no-var-row, kids-row}
 use Rattle.unify.specs.Frames.{frame-same, frame-trans, held-on, rows-same, kinds-same, marking-frame, marking-mem, binding-frame, binding-mem}
-use Rattle.unify.proofs.Laws.{kind-in}
+use Rattle.unify.proofs.Laws.{kind-in, row-var}
 use Rattle.unify.specs.Promise.{Frame, kindsIn, memIn, rowIn, rowsIn}
 
 -- ── an open variable ──
@@ -202,35 +206,69 @@ module _ (m : List ℕ) (c : Counts) (v : VarId) (z : TypeId) where
 
 -- ── step 3 ──
 
+-- the kind test of x's variable against the row z failed
+module _ (m : List ℕ) (c : Counts) (x z : TypeId) (h : ℕ) (p : h ≡ headAt m (c .types) (z .0)) where
+  pub exchange-none : h ≢ 12 → Exchanges m c x z Unfit
+  unfolding act atVar
+  exchange-none d v e f rec =
+      let o : exchanged (kindsIn m c) (asVar (rowIn m c x)) (asVar (rowIn m c z)) ≡ false = rw (no-var-row m (c .types) (z .0) (rw p at d)) (none-kept (kindsIn m c) (asVar (rowIn m c x))) in
+      rw (o, e, f)
+
+  module _ (u : ℕ) (e : h ≡ 12) (q : u ≡ numberAt m (c .types) (z .0)) (k : Kind) (pk : k ≡ kindIn m c (variable u)) where
+    as-var-z : asVar (rowIn m c z) ≡ some u
+    as-var-z = ap asVar (row-var m c z h p u e q)
+
+    -- z is the variable of the step
+    pub exchange-regular : k ≡ Regular → Exchanges m c x z (Of (variable u) x)
+    unfolding act atVar
+    exchange-regular r v a f rec =
+        let i : kind (kindsIn m c) u ≡ regular = sym (kind-in m c u k pk) ∙ ap kindK r in
+        let g : kindFits (kind (kindsIn m c) v) regular ≡ false = rw (row-var m c z h p u e q, i) at f in
+        let o : exchanged (kindsIn m c) (asVar (rowIn m c x)) (asVar (rowIn m c z)) ≡ true = rw (a, as-var-z, i) (unfit-exchanged (kind (kindsIn m c) v) g) in
+        rw (o, as-var-z, i, regular-fits (kindsIn m c) (rowIn m c x))
+
+    -- two number variables that do not fit
+    pub exchange-number : (l : Kind) → k ≡ l → isRegular (kindK l) ≡ false → Exchanges m c x z Unfit
+    unfolding act atVar
+    exchange-number l r n v a f rec =
+        let i : isRegular (kind (kindsIn m c) u) ≡ false = rw (← (kind-in m c u k pk), r) n in
+        let o : exchanged (kindsIn m c) (asVar (rowIn m c x)) (asVar (rowIn m c z)) ≡ false = rw (a, as-var-z) (number-kept (kind (kindsIn m c) v) (kind (kindsIn m c) u) i) in
+        rw (o, a, f)
+
 module _ (m : List ℕ) (c : Counts) (x z : TypeId) (h : ℕ) (p : h ≡ headAt m (c .types) (x .0)) where
-  pub variable-none : h ≢ 12 → Varied m c x z m (Done Mismatch)
-  unfolding atVar
-  variable-none d held = record { frame = frame-same m c; left-over = λ rec. rw (no-var-row m (c .types) (x .0) (rw p at d)); enterable = tt }
+  pub roles-none : h ≢ 12 → HasRoles m c x z Unfit
+  unfolding act atVar
+  roles-none d rec =
+      let n = no-var-row m (c .types) (x .0) (rw p at d) in
+      let o : exchanged (kindsIn m c) (asVar (rowIn m c x)) (asVar (rowIn m c z)) ≡ false = rw n in
+      rw (o, n)
 
   module _ (u : ℕ) (e : h ≡ 12) (q : u ≡ numberAt m (c .types) (x .0)) (k l : Kind) (pk : k ≡ kindIn m c (variable u)) (pl : Classed m c z l) (t : Bool) (pt : t ≡ kindFits (kindK k) (kindK l)) where
     as-u : asVar (rowIn m c x) ≡ some u
-    as-u = ap asVar (var-row m (c .types) (x .0) (sym p ∙ e)) ∙ ap some (sym q)
+    as-u = ap asVar (row-var m c x h p u e q)
 
     test : fits (kindsIn m c) (kind (kindsIn m c) u) (rowIn m c z) ≡ t
     test = rw (← (kind-in m c u k pk)) (pl (kindK k)) ∙ sym pt
 
-    pub variable-fits : (w : List ℕ) (r : Next) → t ≡ true → Met m c (variable u) z w r → Varied m c x z w r
-    unfolding atVar
-    variable-fits w r f a held = let g = a held in record { frame = g .frame; left-over = λ rec. rw (as-u, test, f) (g .left-over rec); enterable = g .enterable }
+    pub roles-fit : t ≡ true → HasRoles m c x z (Of (variable u) z)
+    unfolding act atVar
+    roles-fit f rec =
+        let o : exchanged (kindsIn m c) (asVar (rowIn m c x)) (asVar (rowIn m c z)) ≡ false = rw as-u (fits-kept (kindsIn m c) u (rowIn m c z) (test ∙ f)) in
+        rw (o, as-u, test, f)
 
-    pub variable-fails : t ≡ false → Varied m c x z m (Done Mismatch)
-    unfolding atVar
-    variable-fails f held = record { frame = frame-same m c; left-over = λ rec. rw (as-u, test, f); enterable = tt }
+    pub roles-unfit : t ≡ false → (r : Meeting) → Exchanges m c x z r → HasRoles m c x z r
+    roles-unfit f r a = a u as-u (test ∙ f)
 
--- the roles exchanged
-pub roles-exchanged : (m : List ℕ) (c : Counts) (x y : TypeId) (t : Bool) (w : List ℕ) (r : Next) → Exchanged m c x y t → t ≡ true → Varied m c y x w r → WithRoles m c x y w r
-unfolding act
-roles-exchanged m c x y t w r p e a held = let g = a held in record { frame = g .frame; left-over = λ rec. rw (← p, e) (g .left-over rec); enterable = g .enterable }
+-- the meeting takes its course
+pub variable-meets : (m : List ℕ) (c : Counts) (x z : TypeId) (r : Meeting) (v : VarId) (y : TypeId) (w : List ℕ) (n : Next) → HasRoles m c x z r → r ≡ Of v y → Met m c v y w n → Varied m c x z w n
+variable-meets m c x z r v y w n a e b held =
+    let g = b held in
+    let a′ : HasRoles m c x z (Of v y) = rw e at a in
+    record { frame = g .frame; left-over = λ rec. a′ rec ∙ g .left-over rec; enterable = g .enterable }
 
--- the roles as they are
-pub roles-kept : (m : List ℕ) (c : Counts) (x y : TypeId) (t : Bool) (w : List ℕ) (r : Next) → Exchanged m c x y t → t ≡ false → Varied m c x y w r → WithRoles m c x y w r
-unfolding act
-roles-kept m c x y t w r p e a held = let g = a held in record { frame = g .frame; left-over = λ rec. rw (← p, e) (g .left-over rec); enterable = g .enterable }
+-- the kind test failed
+pub variable-unfit : (m : List ℕ) (c : Counts) (x z : TypeId) (r : Meeting) → HasRoles m c x z r → r ≡ Unfit → Varied m c x z m (Done Mismatch)
+variable-unfit m c x z r a e held = let a′ : HasRoles m c x z Unfit = rw e at a in record { frame = frame-same m c; left-over = λ rec. a′ rec; enterable = tt }
 
 -- ── steps 1 to 5 ──
 
@@ -281,6 +319,18 @@ choose-swapped e g h = by (compared e && eqb e g) (eqb g 11) (eqb e 8 && eqb g 8
     by false false false false false false false true j k = absurd (let y : _≡_ {A = ℕ} 0 1 = cc in omega arith)
     by false false false false false false false false j k = absurd (let y : _≡_ {A = ℕ} 0 1 = cc in omega arith)
 
+-- the variable of the got side: the expected side is none
+choose-righted : (e g : ℕ) → choose e g ≡ right → eqb e 12 ≡ false
+unfolding choose
+choose-righted e g h = by (compared e && eqb e g) (eqb g 11) (eqb e 8 && eqb g 8) (eqb e 12) refl h
+  where
+    by : (a b d l : Bool) → eqb e 12 ≡ l → cond a compare (cond b same (cond d down (cond l left (cond (eqb g 12) right (cond (eqb e 6 && eqb g 13) down (cond (eqb e 13 && eqb g 6) swap (cond (eqb e 10 || eqb g 10) same differ))))))) ≡ right → eqb e 12 ≡ false
+    by true b d l i j = absurd (let y : _≡_ {A = ℕ} 0 1 = cc in omega arith)
+    by false true d l i j = absurd (let y : _≡_ {A = ℕ} 0 1 = cc in omega arith)
+    by false false true l i j = absurd (let y : _≡_ {A = ℕ} 0 1 = cc in omega arith)
+    by false false false true i j = absurd (let y : _≡_ {A = ℕ} 0 1 = cc in omega arith)
+    by false false false false i j = i
+
 -- a function's or a lambda's row is made of its output and inputs
 parted : (m : List ℕ) (c : Counts) (x : TypeId) → (headAt m (c .types) (x .0) ≡ 6) ⊎ (headAt m (c .types) (x .0) ≡ 13) → Parted m c x
 unfolding parts
@@ -316,13 +366,16 @@ module _ (m : List ℕ) (c : Counts) (x y : TypeId) (h k : ℕ) (ph : h ≡ head
   unfolding act
   step-differ e = stay (Done Mismatch) tt (λ rec. rw e)
 
-  pub step-left : (w : List ℕ) (r : Next) → d ≡ Left → WithRoles m c x y w r → Stepped m c x y w r
+  pub step-left : (w : List ℕ) (r : Next) → d ≡ Left → Varied m c x y w r → Stepped m c x y w r
   unfolding act
   step-left w r e a held = let g = a held in record { frame = g .frame; left-over = λ rec. rw (moves, e) (g .left-over rec); enterable = g .enterable }
 
   pub step-right : (w : List ℕ) (r : Next) → d ≡ Right → Varied m c y x w r → Stepped m c x y w r
   unfolding act
-  step-right w r e a held = let g = a held in record { frame = g .frame; left-over = λ rec. rw (moves, e) (g .left-over rec); enterable = g .enterable }
+  step-right w r e a held =
+      let g = a held in
+      let o = no-var-row m (c .types) (x .0) (rw ph at (test-false h 12 (choose-righted h k (rw e at (sym pd))))) in
+      record { frame = g .frame; left-over = λ rec. rw (moves, e) (rw (o, none-kept (kindsIn m c) (asVar (rowIn m c y))) at (g .left-over rec)); enterable = g .enterable }
 
   pub step-swap : d ≡ Swap → Stepped m c x y m (Into y x)
   unfolding act

@@ -1,10 +1,10 @@
--- What the leaves answer: the kind test, the roles, the mark's test, the choice of the step, step 1's comparison.
+-- What the leaves answer: the kind test, the mark's test, the choice of the step, step 1's comparison.
 use mathlib.Core.Path.{_≡_}
 use mathlib.Core.List.{List}
 use mathlib.Core.Bool.{Bool, cond}
 use Prim.Native.Nat.{ℕ, _+_}
 use lib.Dec.{eqb, ltb}
-use Rattle.theory.specs.Rules.{Step, same, compare, left, right, down, swap, differ, Out, success, mismatch, refused12, refused13, dry, row, asVar, fits, kindFits, exchanged, signed, isSame, alike, regular, integer, floating}
+use Rattle.theory.specs.Rules.{Step, same, compare, left, right, down, swap, differ, Out, success, mismatch, refused12, refused13, dry, row, asVar, fits, kindFits, signed, isSame, alike, regular, integer, floating}
 use Rattle.theory.specs.Rules.{Kind as KindT}
 use Rattle.type_table.specs.declared.Counts.{Counts}
 use Rattle.type_table.specs.declared.TypeId.{TypeId}
@@ -45,10 +45,6 @@ stepK Differ = differ
 -- a row's class decides every kind test against it
 abbrev pub Classed : List ℕ → Counts → TypeId → Kind → Type 0
 Classed m c z r = (k : KindT) → fits (kindsIn m c) k (rowIn m c z) ≡ kindFits k (kindK r)
-
--- whether the roles of two variables are exchanged
-abbrev pub Exchanged : List ℕ → Counts → TypeId → TypeId → Bool → Type 0
-Exchanged m c x y r = r ≡ exchanged (kindsIn m c) (asVar (rowIn m c x)) (asVar (rowIn m c y))
 
 -- a marked variable may meet the row
 abbrev pub Signed : List ℕ → Counts → TypeId → Bool → Type 0

@@ -1,10 +1,11 @@
 -- One step of unification in the memory: what is left to do, and what stays as it was.
 use mathlib.Core.Path.{_≡_}
 use mathlib.Core.List.{List, _∷_}
-use mathlib.Core.Bool.{Bool, true, not, _&&_, cond}
+use mathlib.Core.Bool.{Bool, true, false, not, _&&_}
+use mathlib.Core.Option.{some}
 use Prim.Native.Nat.{ℕ}
 use lib.Dec.{eqb}
-use Rattle.theory.specs.Rules.{Shape, Mem, Res, row, asVar, kids, bound, isSame, signed, left, right, exchanged, split, atVar, act, perform, move, other, heed, chase, settle}
+use Rattle.theory.specs.Rules.{Shape, Mem, Res, row, asVar, kids, bound, isSame, signed, mismatch, fits, kind, left, exchanged, roles, split, act, perform, move, other, heed, chase, settle}
 use Rattle.theory.specs.Rules.{Kind as KindT}
 use Rattle.type_table.specs.declared.Counts.{Counts}
 use Rattle.type_table.specs.declared.TypeId.{TypeId}
@@ -13,6 +14,8 @@ use Rattle.type_table.specs.Memory.{pick, headAt, numberAt, outputAt, firstAt, 
 use Rattle.type_table.specs.Made.{marking}
 use Rattle.type_table.specs.View.{type}
 use Rattle.unify.specs.declared.Reply.{Reply}
+use Rattle.unify.specs.declared.Meeting.{Meeting}
+use Rattle.unify.specs.declared.Meeting.the-variants.{Of, Unfit}
 use Rattle.unify.specs.declared.Next.{Next}
 use Rattle.unify.specs.declared.Next.the-variants.{Done, On, Into}
 use Rattle.unify.specs.Leaf.{outK}
@@ -69,13 +72,22 @@ passedIn m c v z = pick (markAt m (c .vars) (v .0)) (pick (eqb (headAt m (c .typ
 abbrev pub Met : List ℕ → Counts → VarId → TypeId → List ℕ → Next → Type 0
 Met m c v z w r = Held m c → Went m c w r (λ rec. other (rowsIn m c) (kindsIn m c) rec (memIn m c) (v .0) (z .0) (isSame (v .0) (asVar (rowIn m c z))))
 
--- what `variable` does: step 3, if the row x is a variable
-abbrev pub Varied : List ℕ → Counts → TypeId → TypeId → List ℕ → Next → Type 0
-Varied m c x z w r = Held m c → Went m c w r (λ rec. perform (rowsIn m c) (kindsIn m c) rec (memIn m c) (atVar (asVar (rowIn m c x)) (z .0)))
+-- step 3 of the rows x, expected, and z, got: the variable of the step is that of x, or that of z where the roles are exchanged
+abbrev pub thirdStep : List ℕ → Counts → TypeId → TypeId → Rec → Res
+thirdStep m c x z rec = perform (rowsIn m c) (kindsIn m c) rec (memIn m c) (act (x .0) (z .0) (rowIn m c x) (rowIn m c z) (roles (exchanged (kindsIn m c) (asVar (rowIn m c x)) (asVar (rowIn m c z))) left))
 
--- what `with_roles` does: step 3, the row x being that of a variable, the roles as they are or exchanged
-abbrev pub WithRoles : List ℕ → Counts → TypeId → TypeId → List ℕ → Next → Type 0
-WithRoles m c x y w r = Held m c → Went m c w r (λ rec. perform (rowsIn m c) (kindsIn m c) rec (memIn m c) (act (x .0) (y .0) (rowIn m c x) (rowIn m c y) (cond (exchanged (kindsIn m c) (asVar (rowIn m c x)) (asVar (rowIn m c y))) right left)))
+-- what `roles` answers: the variable v of step 3 and the row y that it meets, the kind test passed; or the mismatch of a test that failed
+abbrev pub HasRoles : List ℕ → Counts → TypeId → TypeId → Meeting → Type 0
+HasRoles m c x z (Of v y) = (rec : Rec) → thirdStep m c x z rec ≡ other (rowsIn m c) (kindsIn m c) rec (memIn m c) (v .0) (y .0) (isSame (v .0) (asVar (rowIn m c y)))
+HasRoles m c x z Unfit = (rec : Rec) → thirdStep m c x z rec ≡ (mismatch, memIn m c)
+
+-- what `exchange` answers: the same, where the row x is that of a variable whose kind test against the row z fails
+abbrev pub Exchanges : List ℕ → Counts → TypeId → TypeId → Meeting → Type 0
+Exchanges m c x z r = (v : ℕ) → asVar (rowIn m c x) ≡ some v → fits (kindsIn m c) (kind (kindsIn m c) v) (rowIn m c z) ≡ false → HasRoles m c x z r
+
+-- what `variable` does: step 3
+abbrev pub Varied : List ℕ → Counts → TypeId → TypeId → List ℕ → Next → Type 0
+Varied m c x z w r = Held m c → Went m c w r (thirdStep m c x z)
 
 -- two arrays go on with their elements, a function and a lambda with their parts
 unfoldable pub downTo : List ℕ → Counts → TypeId → TypeId → Next

@@ -4,11 +4,11 @@ ghost use mathlib.Core.List.{List};
 ghost use mathlib.Core.Bool.{_&&_, _||_};
 ghost use Prim.Native.Nat.{ℕ, _+_, _≤_};
 ghost use lib.Dec.{eqb};
-ghost use Rattle.theory.specs.Rules.{kindFits, kindsExchange};
+ghost use Rattle.theory.specs.Rules.{kindFits};
 ghost use Rattle.theory.specs.Rules.{compared as compared·T, choose as choose·T};
 ghost use Rattle.type_table.specs.Memory.{inputsFrom};
-ghost use Rattle.unify.specs.Leaf.{kindK, stepK, cap, code, Classed, Exchanged, Signed, Compared, SameVar};
-ghost use Rattle.unify.specs.Step.{Settled, Chased, unsignedIn, passedIn, Met, Varied, WithRoles, downTo, Stepped};
+ghost use Rattle.unify.specs.Leaf.{kindK, stepK, cap, code, Classed, Signed, Compared, SameVar};
+ghost use Rattle.unify.specs.Step.{Settled, Chased, unsignedIn, passedIn, Met, HasRoles, Exchanges, Varied, downTo, Stepped};
 ghost use Rattle.unify.specs.Unify.{isSuccess, Eached, Entered, Unified, answerOf};
 ghost use Rattle.unify.specs.Promise.{heldIn, Solved};
 use search::Found;
@@ -80,39 +80,43 @@ fn kind_test(k: Kind, l: Kind) -> bool
     }
 }
 
-// Whether a variable of the kind k, expected, and one of the kind l, got, exchange their roles.
-fn kinds_exchange(k: Kind, l: Kind) -> bool
-    ensures { λ r. ⌜ r ≡ kindsExchange (kindK k) (kindK l) ⌝ }
-{
-    match k {
-        Kind::Regular => false,
-        Kind::Integer => match l {
-            Kind::Regular => true,
-            Kind::Integer => false,
-            Kind::Float => false,
-        },
-        Kind::Float => match l {
-            Kind::Regular => true,
-            Kind::Integer => false,
-            Kind::Float => false,
-        },
-    }
+// The variable of step 3 and the row that it meets, its kind test passed; or that the test fails.
+enum Meeting {
+    Of(VarId, TypeId),
+    Unfit,
 }
 
-// Whether the roles are exchanged: the row x is an integer or float variable's, the row y a Regular one's.
-fn exchanged(m: &[u16], c: Counts, x: TypeId, y: TypeId) -> bool
-    ensures { λ r. ⌜ Exchanged (now (m .entry)) c x y r ⌝ }
+// The variable of the row x fails the kind test against the row z: a Regular variable there exchanges the roles with it.
+fn exchange(m: &[u16], c: Counts, x: TypeId, z: TypeId) -> Meeting
+    ensures { λ r. ⌜ Exchanges (now (m .entry)) c x z r ⌝ }
+{
+    let h = type_table::head(m, c, z);
+    if h == HEAD_INFER_TY {
+        let u = type_table::number(m, c, z);
+        return match type_table::kind_of(m, c, VarId(u)) {
+            Kind::Regular => Meeting::Of(VarId(u), x),
+            Kind::Integer => Meeting::Unfit,
+            Kind::Float => Meeting::Unfit,
+        };
+    }
+    Meeting::Unfit
+}
+
+// The roles of the row x, if it is a variable's, and of the row z. Where the kind test is passed they are as they stand.
+fn roles(m: &[u16], c: Counts, x: TypeId, z: TypeId) -> Meeting
+    ensures { λ r. ⌜ HasRoles (now (m .entry)) c x z r ⌝ }
 {
     let h = type_table::head(m, c, x);
-    let k = type_table::head(m, c, y);
-    if both(h, HEAD_INFER_TY, k, HEAD_INFER_TY) {
-        let v = type_table::number(m, c, x);
-        let u = type_table::number(m, c, y);
-        let a = type_table::kind_of(m, c, VarId(v));
-        let b = type_table::kind_of(m, c, VarId(u));
-        return kinds_exchange(a, b);
+    if h == HEAD_INFER_TY {
+        let u = type_table::number(m, c, x);
+        let k = type_table::kind_of(m, c, VarId(u));
+        let l = class(m, c, z);
+        if kind_test(k, l) {
+            return Meeting::Of(VarId(u), z);
+        }
+        return exchange(m, c, x, z);
     }
-    false
+    Meeting::Unfit
 }
 
 // Whether a marked variable may meet a row: Int, or a variable.
@@ -341,27 +345,10 @@ fn meet(m: &mut [u16], c: Counts, v: VarId, z: TypeId) -> Next
 fn variable(m: &mut [u16], c: Counts, x: TypeId, z: TypeId) -> Next
     ensures { λ r. ⌜ Varied (now (m .entry)) c x z (now (m .exit)) r ⌝ }
 {
-    let h = type_table::head(m, c, x);
-    if h == HEAD_INFER_TY {
-        let u = type_table::number(m, c, x);
-        let k = type_table::kind_of(m, c, VarId(u));
-        let l = class(m, c, z);
-        if kind_test(k, l) {
-            return meet(m, c, VarId(u), z);
-        }
-        return Next::Done(Reply::Mismatch);
+    match roles(m, c, x, z) {
+        Meeting::Of(v, y) => meet(m, c, v, y),
+        Meeting::Unfit => Next::Done(Reply::Mismatch),
     }
-    Next::Done(Reply::Mismatch)
-}
-
-// Step 3, a variable expected: the variable of the step, unless the roles are exchanged.
-fn with_roles(m: &mut [u16], c: Counts, x: TypeId, y: TypeId) -> Next
-    ensures { λ r. ⌜ WithRoles (now (m .entry)) c x y (now (m .exit)) r ⌝ }
-{
-    if exchanged(m, c, x, y) {
-        return variable(m, c, y, x);
-    }
-    variable(m, c, x, y)
 }
 
 // Step 2, or step 4 with the function first.
@@ -390,7 +377,7 @@ fn step(m: &mut [u16], c: Counts, x: TypeId, y: TypeId) -> Next
             let a = compare(m, c, x, y);
             Next::Done(a)
         }
-        Decision::Left => with_roles(m, c, x, y),
+        Decision::Left => variable(m, c, x, y),
         Decision::Right => variable(m, c, y, x),
         Decision::Down => down(m, c, x, y),
         Decision::Swap => Next::Into(y, x),
