@@ -64,7 +64,7 @@ pub fn faults(checked: &Checked, body: &[u8], text: &[u8]) -> Vec<String> {
     let failed = checked.equations().filter(|e| e.outcome == Outcome::Mismatch).count();
     let raised = checked.errors().filter(|e| e.cause == Cause::Mismatch).count();
     if counts.equations * 3 > tables.log.len() || failed != raised {
-        faults.push(format!("{failed} equations fail, and {raised} errors are theirs"));
+        faults.push(format!("the equations in the log: {failed} fail, and {raised} errors are theirs"));
     }
     faults
 }
