@@ -1,4 +1,5 @@
--- What the proofs share: a property of all members of a list, tests on numbers as facts, contradiction. Assumes nothing.
+-- What the proofs share: a property of all members of a list, tests on numbers as facts, contradiction, the end of a list of equations.
+-- Assumes nothing.
 use mathlib.Core.Path.{_≡_, refl, sym, _∙_}
 use mathlib.Core.Logic.{_≢_, _⊎_, inl, inr}
 use mathlib.Core.List.{List, [], _∷_}
@@ -10,6 +11,7 @@ use native.Mathlib.Decide.{ℕ-discrete, decLt}
 use lib.ListN.{length, getD, set, List·getD-eq-default}
 use lib.Seq.{getD-set-same, getD-set-other}
 use lib.Dec.{T, eqb, ltb, eqb→eq, eqb-refl, ltb→lt, lt→ltb}
+use Rattle.theory.specs.Rules.{Out, success, mismatch, refused12, refused13, dry, Mem, Res, onward, andThen}
 
 -- each member of the list has the property
 abbrev pub All {ℓ} : {A : Type ℓ} → (A → Type 0) → List A → Type 0
@@ -98,3 +100,14 @@ bound-in b v r e = by (decLt v (length b))
     by : Dec (v < length b) → v < length b
     by (yes h) = h
     by (no h) = let q = List·getD-eq-default b none {n = v} (omega arith) in clash (cc)
+
+-- an answer after which nothing comes is the answer
+pub last-success : (r : Res) → andThen r (λ m. (success, m)) ≡ r
+last-success r = by (r .0) (r .1)
+  where
+    by : (o : Out) (m : Mem) → onward o m (λ n. (success, n)) ≡ (o, m)
+    by success m = refl
+    by mismatch m = refl
+    by refused12 m = refl
+    by refused13 m = refl
+    by dry m = refl

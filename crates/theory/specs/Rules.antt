@@ -1,4 +1,4 @@
--- The rules of unification, as document 01 states them. Definitions alone: nothing is proved here.
+-- The rules of unification, as documents 01 and 02 state them. Definitions alone: nothing is proved here.
 use mathlib.Core.List.{List, [], _∷_}
 use mathlib.Core.Option.{Option, none, some}
 use mathlib.Core.Bool.{Bool, true, false, cond, not, _&&_, _||_}

@@ -10,9 +10,9 @@ use native.Mathlib.Omega.{arith}
 use lib.ListN.{length, set, length-set}
 use lib.Seq.{getD-set-same, getD-set-other}
 use Rattle.theory.specs.Rules.{bool, nil, float, double, uint, int, inst, Shape, var, Kind, regular, integer, floating, Out, success, mismatch, refused12, refused13, dry, Mem, Res, Act, at, baseFits, kindFits, isRegular, row, kind, fits, kindsExchange, asVar, bound}
-use Rattle.theory.specs.Rules.{Found, free, ring, inside, lost, seek, choose, split, atVar, act, left, right, pass, bind, isSame, settle, chase, heed, other, suits, perform, move, unify, onward, andThen, marked, signed}
+use Rattle.theory.specs.Rules.{Found, free, ring, inside, lost, seek, choose, split, atVar, act, left, right, pass, bind, isSame, settle, chase, heed, other, suits, perform, move, unify, marked, signed}
 use Rattle.theory.specs.Program.{fuel, solve}
-use Rattle.theory.specs.Basics.{clash, not-both, eqb-true, bound-after}
+use Rattle.theory.specs.Basics.{clash, not-both, eqb-true, bound-after, last-success}
 use Rattle.theory.specs.Ways.{Ty, basic, arrayOf, Way, tyFits, Kinded, Plain, plain-base, plain-var, plain-array, den, Agrees, PlainBound, Failed}
 use Rattle.theory.specs.Graph.{Lower}
 use Rattle.theory.specs.Meaning.{size, den-base, den-var, den-array, as-var, ring-same, inside-less}
@@ -48,17 +48,6 @@ exchanged-one-way integer floating e = clash (cc)
 exchanged-one-way floating regular e = refl
 exchanged-one-way floating integer e = clash (cc)
 exchanged-one-way floating floating e = clash (cc)
-
--- an answer after which nothing comes is the answer
-last-success : (r : Res) → andThen r (λ m′. (success, m′)) ≡ r
-last-success r = by (r .0) (r .1)
-  where
-    by : (o : Out) (m′ : Mem) → onward o m′ (λ m″. (success, m″)) ≡ (o, m′)
-    by success m′ = refl
-    by mismatch m′ = refl
-    by refused12 m′ = refl
-    by refused13 m′ = refl
-    by dry m′ = refl
 
 -- the bindings are plain, and the rows' variables are in range
 pub record Fair (rows : List Shape) (b : List (Option ℕ)) : Type 0 where

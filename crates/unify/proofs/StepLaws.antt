@@ -7,7 +7,7 @@ use mathlib.Core.Bool.{Bool, true, false, not, _&&_, _||_, cond, true≢false, f
 use Prim.Native.Nat.{ℕ}
 use native.Mathlib.Omega.{arith}
 use lib.Dec.{eqb}
-use Rattle.theory.specs.Rules.{same, compare, left, right, down, swap, differ, Out, success, mismatch, refused12, refused13, dry, Mem, Res, regular, isRegular, row, kids, asVar, kind, bound, fits, kindFits, marked, passTo, pass, exchanged, roles, choose, compared, split, atVar, act, move, perform, each, onward, andThen, heed, chase, settle}
+use Rattle.theory.specs.Rules.{same, compare, left, right, down, swap, differ, success, Mem, regular, isRegular, row, kids, asVar, kind, bound, fits, kindFits, marked, passTo, pass, exchanged, roles, choose, compared, split, atVar, act, move, perform, each, heed, chase, settle}
 use Rattle.type_table.specs.declared.Counts.{Counts}
 use Rattle.type_table.specs.declared.TypeId.{TypeId}
 use Rattle.type_table.specs.declared.VarId.{VarId}
@@ -34,7 +34,7 @@ use Rattle.unify.specs.Leaf.{kindK, stepK, Classed, Signed, SameVar, Com
 use Rattle.search.specs.Search.{seekIn, Sought, parts}
 use Rattle.unify.specs.Step.{Rec, resume, Parted, Enterable, Settled, Chased, Heeded, unsignedIn, passedIn, Met, HasRoles, Exchanges, Varied, downTo, Stepped}
 use Rattle.type_table.specs.Tables.{mark-at}
-use Rattle.theory.specs.Basics.{and-both, eqb-true}
+use Rattle.theory.specs.Basics.{and-both, eqb-true, last-success}
 use Rattle.theory.specs.Choice.{fits-kept, regular-fits, unfit-exchanged, number-kept, none-kept}
 use Rattle.type_table.specs.Heads.{head-row, var-row}
 use Rattle.search.specs.Bridge.{bound-open, bound-some, no-var-row, kids-row}
@@ -271,16 +271,6 @@ pub variable-unfit : (m : List ℕ) (c : Counts) (x z : TypeId) (r : Meeting) �
 variable-unfit m c x z r a e held = let a′ : HasRoles m c x z Unfit = rw e at a in record { frame = frame-same m c; left-over = λ rec. a′ rec; enterable = tt }
 
 -- ── steps 1 to 5 ──
-
-last-success : (r : Res) → andThen r (λ m. (success, m)) ≡ r
-last-success r = by (r .0) (r .1)
-  where
-    by : (o : Out) (m : Mem) → onward o m (λ n. (success, n)) ≡ (o, m)
-    by success m = refl
-    by mismatch m = refl
-    by refused12 m = refl
-    by refused13 m = refl
-    by dry m = refl
 
 -- where the choice is parts against parts
 choose-inward : (e g : ℕ) → choose e g ≡ down → ((eqb e 8 && eqb g 8) ≡ true) ⊎ ((e ≡ 6) × (g ≡ 13))
