@@ -1,4 +1,4 @@
-// Unification over the memory of the crate `type_table`: the equation of an expected and a got row, by steps 1 to 5 of document 01.
+// Unification over the memory of the crate `type_table`: the equation of an expected and a got row, by steps 1 to 5 of documents 01 and 02.
 ghost use mathlib.Core.Path.{_≡_};
 ghost use mathlib.Core.List.{List};
 ghost use mathlib.Core.Bool.{_&&_, _||_};
