@@ -24,7 +24,7 @@ use Rattle.record.specs.declared.Equated.{Equated}
 use Rattle.record.specs.declared.Equated.the-variants as equated
 use Rattle.record.specs.Own.{log-at, most-errors}
 use Rattle.record.specs.Steps.{State, caused, error, equation}
-use Rattle.record.specs.Encodes.{answerNumber, Logged, Encodes, Fits, Runs, Equates}
+use Rattle.record.specs.Encodes.{answerNumber, answerWord, Logged, Encodes, Fits, Runs, Equates}
 use Rattle.record.specs.Runs.{encodes-refused}
 use Rattle.record.specs.Answers.{oneEquation, logWritten, Logs, Fails}
 use Rattle.record.specs.Behind.{Behind, behind-sound, behind-state}
@@ -115,20 +115,20 @@ stops-with : (k n : ℕ) (s : State) → refused k n s .stop ≡ some (k, n)
 unfolding refused
 stops-with k n s = refl
 
--- x, expected, and y, got, are unified in m, which becomes w with the answer r
-module _ (m w : List ℕ) (c : Record) (x y : TypeId) (r : Answer) (p : Solved m (c .counts) x y w r) where
+-- in the rule of the node n, x, expected, and y, got, are unified in m, which becomes w with the answer r
+module _ (m w : List ℕ) (c : Record) (n : ℕ) (x y : TypeId) (r : Answer) (p : Solved m (c .counts) x y w r) where
   -- what the rules make of the equation over the tables of a state
   abbrev result : State → Res
   result s = solved (clip (length (s .rows)) (x .0)) (clip (length (s .rows)) (y .0)) s
 
   -- the state with the equation
   abbrev after : State → State
-  after s = raised (clip (length (s .rows)) (x .0)) (clip (length (s .rows)) (y .0)) (result s) s
+  after s = raised n (clip (length (s .rows)) (x .0)) (clip (length (s .rows)) (y .0)) (result s) s
 
   module _ {s : State} (e : Encodes m c s) where
     -- the tables, as `unify` leaves them
     unified : (stateOf w (c .counts) (after s) ≡ after s) × (r ≡ answerIs ((result s) .0))
-    unified = rw (rows-counted e) (rw (e .tables) at (unify-step m (c .counts) (e .sound) x y w r p s))
+    unified = rw (rows-counted e) (rw (e .tables) at (unify-step m (c .counts) (e .sound) x y w r p n s))
 
     -- the steps do not run out
     ended : Ended ((result s) .0)
@@ -150,7 +150,7 @@ module _ (m w : List ℕ) (c : Record) (x y : TypeId) (r : Answer) (p : Solved m
         kept q = q .frame
 
     -- the log with the equation
-    log-more : (k : ℕ) → k ≡ answerNumber ((result s) .0) → Logged (logWritten w c (x .0) (y .0) k) ((after s) .log)
+    log-more : (k : ℕ) → k ≡ answerWord (answerNumber ((result s) .0)) n → Logged (logWritten w c (x .0) (y .0) k) ((after s) .log)
     unfolding raised Logged
     log-more k q =
         let u = logWritten w c (x .0) (y .0) k in
@@ -158,13 +158,13 @@ module _ (m w : List ℕ) (c : Record) (x y : TypeId) (r : Answer) (p : Solved m
         let low : SameIn w u log-at (log-at + length (s .log) * 3) = λ j a b. log-below w c (x .0) (y .0) k j (omega arith) (omega (arith, e .equations)) in
         let old : Logged w (s .log) = logged-kept m w (s .log) (in-tables .size) (λ j a b. in-tables .same j (omega arith)) (e .logged) in (
           λ room. let h : log-at + c .equations * 3 + 3 ≤ length w = omega (arith, e .equations, size, room) in
-              let n : c .counts .types ≡ length (s .rows) = sym (rows-counted e) in
-              rw (← e .equations) (log-expected w c (x .0) (y .0) k h ∙ ap (λ (z : ℕ). clip z (x .0)) n, log-got w c (x .0) (y .0) k h ∙ ap (λ (z : ℕ). clip z (y .0)) n, log-answer w c (x .0) (y .0) k h ∙ q),
+              let t : c .counts .types ≡ length (s .rows) = sym (rows-counted e) in
+              rw (← e .equations) (log-expected w c (x .0) (y .0) k h ∙ ap (λ (z : ℕ). clip z (x .0)) t, log-got w c (x .0) (y .0) k h ∙ ap (λ (z : ℕ). clip z (y .0)) t, log-answer w c (x .0) (y .0) k h ∙ q),
           logged-kept w u (s .log) size low old,
         )
 
     -- the memory with the equation in the log holds the state with it
-    pub noted : Fits (after s) → (u : List ℕ) (d : Record) (k : ℕ) → Logs w c (x .0) (y .0) k u d → k ≡ answerNumber ((result s) .0) → Encodes u d (after s)
+    pub noted : Fits (after s) → (u : List ℕ) (d : Record) (k : ℕ) → Logs w c (x .0) (y .0) k u d → k ≡ answerWord (answerNumber ((result s) .0)) n → Encodes u d (after s)
     unfolding raised
     noted f u d k logs q = by (logs (omega (arith, e .equations, f .equations)))
       where
@@ -201,56 +201,56 @@ module _ (m w : List ℕ) (c : Record) (x y : TypeId) (r : Answer) (p : Solved m
             }
 
   -- the equation runs by its answer
-  reacts : {s : State} (e : Encodes m c s) (n : ℕ) (err : TypingError) → run (equation n (x .0) (y .0) err) s ≡ react n (outOf r) (caused err) (λ b t. (some b, t)) (after s)
+  reacts : {s : State} (e : Encodes m c s) (err : TypingError) → run (equation n (x .0) (y .0) err) s ≡ react n (outOf r) (caused err) (λ b t. (some b, t)) (after s)
   unfolding equation run
-  reacts {s} e n err = ap (λ (o : Out). react n o (caused err) (λ b t. (some b, t)) (after s)) (sym (answer e))
+  reacts {s} e err = ap (λ (o : Out). react n o (caused err) (λ b t. (some b, t)) (after s)) (sym (answer e))
 
-  -- the number of the answer
-  numbered : (s : State) (e : Encodes m c s) {o : Answer} → r ≡ o → answerNumber (outOf o) ≡ answerNumber ((result s) .0)
-  numbered s e q = ap answerNumber (sym (ap outOf q) ∙ answer e)
+  -- the third cell, by the answer
+  numbered : (s : State) (e : Encodes m c s) {o : Answer} → r ≡ o → answerWord (answerNumber (outOf o)) n ≡ answerWord (answerNumber ((result s) .0)) n
+  numbered s e q = ap (λ (a : Out). answerWord (answerNumber a) n) (sym (ap outOf q) ∙ answer e)
 
   -- the equation is met
-  pub equation-met : r ≡ Success → (n : ℕ) (err : TypingError) (m′ : List ℕ) (d : Record) → Logs w c (x .0) (y .0) 0 m′ d → Equates m c m′ n (equated.Met d) (equation n (x .0) (y .0) err)
-  equation-met q n err m′ d logs = record {
+  pub equation-met : r ≡ Success → (err : TypingError) (m′ : List ℕ) (d : Record) → Logs w c (x .0) (y .0) (answerWord 0 n) m′ d → Equates m c m′ n (equated.Met d) (equation n (x .0) (y .0) err)
+  equation-met q err m′ d logs = record {
     by = record {
-      ran = λ s e f. let h : run (equation n (x .0) (y .0) err) s ≡ (some true, after s) = rw q at (reacts e n err) in
-          rw h (refl, noted e (rw h at f) m′ d 0 logs (numbered s e q));
+      ran = λ s e f. let h : run (equation n (x .0) (y .0) err) s ≡ (some true, after s) = rw q at (reacts e err) in
+          rw h (refl, noted e (rw h at f) m′ d (answerWord 0 n) logs (numbered s e q));
     };
   }
 
   -- the error of an equation that failed
-  failing : {s : State} (e : Encodes m c s) (err : TypingError) (m′ : List ℕ) (d : Record) → answerNumber mismatch ≡ answerNumber ((result s) .0) → Fails w c (x .0) (y .0) err m′ (equated.Failed d) → Fits (emitted (caused err mismatch) (after s)) → Encodes m′ d (emitted (caused err mismatch) (after s))
+  failing : {s : State} (e : Encodes m c s) (err : TypingError) (m′ : List ℕ) (d : Record) → answerWord (answerNumber mismatch) n ≡ answerWord (answerNumber ((result s) .0)) n → Fails w c n (x .0) (y .0) err m′ (equated.Failed d) → Fits (emitted (caused err mismatch) (after s)) → Encodes m′ d (emitted (caused err mismatch) (after s))
   unfolding error run raised
   failing {s} e err m′ d q fails f =
       let g : Fits (after s) = fits-before (caused err mismatch) (after s) f in
-      fails (omega (arith, e .equations, g .equations)) .ran (after s) (noted e g (logWritten w c (x .0) (y .0) (answerNumber mismatch)) (oneEquation c) (answerNumber mismatch) (λ h. (refl, refl)) q) f .1
+      fails (omega (arith, e .equations, g .equations)) .ran (after s) (noted e g (logWritten w c (x .0) (y .0) (answerWord (answerNumber mismatch) n)) (oneEquation c) (answerWord (answerNumber mismatch) n) (λ h. (refl, refl)) q) f .1
 
   -- the equation failed
-  pub equation-mismatch : r ≡ Mismatch → (n : ℕ) (err : TypingError) (m′ : List ℕ) (z : Equated) → Fails w c (x .0) (y .0) err m′ z → Equates m c m′ n z (equation n (x .0) (y .0) err)
-  equation-mismatch q n err m′ (equated.Met d) h = absurd h
-  equation-mismatch q n err m′ (equated.Failed d) h = record {
+  pub equation-mismatch : r ≡ Mismatch → (err : TypingError) (m′ : List ℕ) (z : Equated) → Fails w c n (x .0) (y .0) err m′ z → Equates m c m′ n z (equation n (x .0) (y .0) err)
+  equation-mismatch q err m′ (equated.Met d) h = absurd h
+  equation-mismatch q err m′ (equated.Failed d) h = record {
     by = record {
-      ran = λ s e f. let g : run (equation n (x .0) (y .0) err) s ≡ (some false, emitted (caused err mismatch) (after s)) = rw q at (reacts e n err) in
+      ran = λ s e f. let g : run (equation n (x .0) (y .0) err) s ≡ (some false, emitted (caused err mismatch) (after s)) = rw q at (reacts e err) in
           rw g (refl, failing e err m′ d (numbered s e q) h (rw g at f));
     };
   }
-  equation-mismatch q n err m′ (equated.Refused a d) h = absurd h
+  equation-mismatch q err m′ (equated.Refused a d) h = absurd h
 
-  module _ (k n : ℕ) (err : TypingError) (is : (s : State) → Encodes m c s → k ≡ answerNumber ((result s) .0)) where
+  module _ (k : ℕ) (err : TypingError) (is : (s : State) → Encodes m c s → answerWord k n ≡ answerWord (answerNumber ((result s) .0)) n) where
     -- the equation is refused with k
-    refused-by : ((s : State) → Encodes m c s → run (equation n (x .0) (y .0) err) s ≡ (none, refused k n (after s))) → (m′ : List ℕ) (d : Record) → Logs w c (x .0) (y .0) k m′ d → Equates m c m′ n (equated.Refused k d) (equation n (x .0) (y .0) err)
-    refused-by g m′ d logs = record { by = record { stopped = λ s e f. rw (g s e) (refl, stops-with k n (after s), encodes-refused k n (noted e (fits-refused k n (after s) (rw (g s e) at f)) m′ d k logs (is s e))) } }
+    refused-by : ((s : State) → Encodes m c s → run (equation n (x .0) (y .0) err) s ≡ (none, refused k n (after s))) → (m′ : List ℕ) (d : Record) → Logs w c (x .0) (y .0) (answerWord k n) m′ d → Equates m c m′ n (equated.Refused k d) (equation n (x .0) (y .0) err)
+    refused-by g m′ d logs = record { by = record { stopped = λ s e f. rw (g s e) (refl, stops-with k n (after s), encodes-refused k n (noted e (fits-refused k n (after s) (rw (g s e) at f)) m′ d (answerWord k n) logs (is s e))) } }
 
   -- the equation is refused with 12
-  pub equation-12 : r ≡ Refused12 → (n : ℕ) (err : TypingError) (m′ : List ℕ) (d : Record) → Logs w c (x .0) (y .0) 12 m′ d → Equates m c m′ n (equated.Refused 12 d) (equation n (x .0) (y .0) err)
-  equation-12 q n err = refused-by 12 n err (λ s e. numbered s e q) (λ s e. rw q at (reacts e n err))
+  pub equation-12 : r ≡ Refused12 → (err : TypingError) (m′ : List ℕ) (d : Record) → Logs w c (x .0) (y .0) (answerWord 12 n) m′ d → Equates m c m′ n (equated.Refused 12 d) (equation n (x .0) (y .0) err)
+  equation-12 q err = refused-by 12 err (λ s e. numbered s e q) (λ s e. rw q at (reacts e err))
 
   -- the equation is refused with 13
-  pub equation-13 : r ≡ Refused13 → (n : ℕ) (err : TypingError) (m′ : List ℕ) (d : Record) → Logs w c (x .0) (y .0) 13 m′ d → Equates m c m′ n (equated.Refused 13 d) (equation n (x .0) (y .0) err)
-  equation-13 q n err = refused-by 13 n err (λ s e. numbered s e q) (λ s e. rw q at (reacts e n err))
+  pub equation-13 : r ≡ Refused13 → (err : TypingError) (m′ : List ℕ) (d : Record) → Logs w c (x .0) (y .0) (answerWord 13 n) m′ d → Equates m c m′ n (equated.Refused 13 d) (equation n (x .0) (y .0) err)
+  equation-13 q err = refused-by 13 err (λ s e. numbered s e q) (λ s e. rw q at (reacts e err))
 
 -- ── the error of a failed equation ──
 
 -- the equation is logged and its error emitted
-pub failed-fails : (m w m′ : List ℕ) (c d z : Record) (x y : ℕ) (err row : TypingError) → row ≡ caused err mismatch → Logs m c x y (answerNumber mismatch) w d → Runs w d m′ z (error row) tt → Fails m c x y err m′ (equated.Failed z)
-failed-fails m w m′ c d z x y err row q logs runs h = let g = logs h in rw (g .0, g .1, q) at runs
+pub failed-fails : (m w m′ : List ℕ) (c d z : Record) (n x y : ℕ) (err row : TypingError) → row ≡ caused err mismatch → Logs m c x y (answerWord (answerNumber mismatch) n) w d → Runs w d m′ z (error row) tt → Fails m c n x y err m′ (equated.Failed z)
+failed-fails m w m′ c d z n x y err row q logs runs h = let g = logs h in rw (g .0, g .1, q) at runs

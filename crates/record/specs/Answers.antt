@@ -14,7 +14,7 @@ use Rattle.record.specs.declared.Equated.{Equated}
 use Rattle.record.specs.declared.Equated.the-variants as equated
 use Rattle.record.specs.Own.{log-at, rawsOf}
 use Rattle.record.specs.Steps.{orNil, caused, error}
-use Rattle.record.specs.Encodes.{answerNumber, Runs}
+use Rattle.record.specs.Encodes.{answerNumber, answerWord, Runs}
 
 -- ── types ──
 
@@ -39,12 +39,12 @@ logWritten m c x y a =
     let i = log-at + c .equations * 3 in
     set (set (set m i (clip (c .counts .types) x)) (i + 1) (clip (c .counts .types) y)) (i + 2) a
 
--- an equation is logged with its answer, where it can be counted
+-- an equation is logged with this third cell, where it can be counted
 abbrev pub Logs : List ℕ → Record → ℕ → ℕ → ℕ → List ℕ → Record → Type 0
 Logs m c x y a m′ d = c .equations < 65535 → (m′ ≡ logWritten m c x y a) × (d ≡ oneEquation c)
 
--- a mismatch is logged, and its error emitted
-abbrev pub Fails : List ℕ → Record → ℕ → ℕ → TypingError → List ℕ → Equated → Type 0
-Fails m c x y e m′ (equated.Met d) = ⊥
-Fails m c x y e m′ (equated.Failed d) = c .equations < 65535 → Runs (logWritten m c x y (answerNumber mismatch)) (oneEquation c) m′ d (error (caused e mismatch)) tt
-Fails m c x y e m′ (equated.Refused n d) = ⊥
+-- a mismatch in the rule of the node n is logged, and its error emitted
+abbrev pub Fails : List ℕ → Record → ℕ → ℕ → ℕ → TypingError → List ℕ → Equated → Type 0
+Fails m c n x y e m′ (equated.Met d) = ⊥
+Fails m c n x y e m′ (equated.Failed d) = c .equations < 65535 → Runs (logWritten m c x y (answerWord (answerNumber mismatch) n)) (oneEquation c) m′ d (error (caused e mismatch)) tt
+Fails m c n x y e m′ (equated.Refused k d) = ⊥

@@ -3,7 +3,7 @@ use mathlib.Core.Path.{_≡_}
 use mathlib.Core.List.{List, [], _∷_}
 use mathlib.Core.Option.{none, some}
 use mathlib.Core.Bool.{Bool, true, false}
-use Prim.Native.Nat.{ℕ, _+_, _*_, _≤_}
+use Prim.Native.Nat.{ℕ, _+_, _*_, _%_, _≤_}
 use lib.ListN.{length}
 use Rattle.theory.specs.Rules.{Shape, base, var, arr, ref, fn, fun, lam, err, div, Out, success, mismatch, refused12, refused13, dry}
 use Rattle.theory.specs.Program.{Equation, run}
@@ -47,9 +47,13 @@ answerNumber refused12 = 12
 answerNumber refused13 = 13
 answerNumber dry = 12
 
+-- the third cell of an equation: its answer's number k and its node n, of 4,096
+abbrev pub answerWord : ℕ → ℕ → ℕ
+answerWord k n = k + n % 4096 * 16
+
 -- the equation i is in the log
 abbrev pub LoggedAt : List ℕ → ℕ → Equation → Type 0
-LoggedAt m i q = (cell m (log-at + i * 3) ≡ q .expected) × (cell m (log-at + i * 3 + 1) ≡ q .got) × (cell m (log-at + i * 3 + 2) ≡ answerNumber (q .answer))
+LoggedAt m i q = (cell m (log-at + i * 3) ≡ q .expected) × (cell m (log-at + i * 3 + 1) ≡ q .got) × (cell m (log-at + i * 3 + 2) ≡ answerWord (answerNumber (q .answer)) (q .node))
 
 -- the equations, the newest first, are in the log as far as the memory reaches
 unfoldable pub Logged : List ℕ → List Equation → Type 0

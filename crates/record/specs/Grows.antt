@@ -109,9 +109,9 @@ unfolding marking
 marking-grown v s = record { rows = omega arith; vars = omega arith; inputs = omega arith; errors = omega arith; equations = omega arith }
 
 -- an equation
-raised-grown : (e g : ℕ) (r : Res) (s : State) → Grown s (raised e g r s)
+raised-grown : (p e g : ℕ) (r : Res) (s : State) → Grown s (raised p e g r s)
 unfolding raised
-raised-grown e g r s = record { rows = omega arith; vars = omega arith; inputs = omega arith; errors = omega arith; equations = omega arith }
+raised-grown p e g r s = record { rows = omega arith; vars = omega arith; inputs = omega arith; errors = omega arith; equations = omega arith }
 
 -- what follows an equation
 react-grown : {A : Type 0} (p : ℕ) (o : Out) (f : Out → TypingError) (k : Bool → State → Option A × State) (s : State) → ((c : Bool) (t : State) → Grown t ((k c t) .1)) → Grown s ((react p o f k s) .1)
@@ -127,7 +127,7 @@ run-grown (intern t f) s = grown-trans (interned-grown t s) (run-grown (f ((inte
 run-grown (equate p x y f k) s =
     let e = clip (length (s .rows)) x in
     let g = clip (length (s .rows)) y in
-    grown-trans (raised-grown e g (solved e g s) s) (react-grown p ((solved e g s) .0) f (λ c s′. run (k c) s′) (raised e g (solved e g s) s) (λ c t. run-grown (k c) t))
+    grown-trans (raised-grown p e g (solved e g s) s) (react-grown p ((solved e g s) .0) f (λ c s′. run (k c) s′) (raised p e g (solved e g s) s) (λ c t. run-grown (k c) t))
 run-grown (emit e p) s = grown-trans (emitted-grown e s) (run-grown p (emitted e s))
 run-grown (mark v p) s = grown-trans (marking-grown v s) (run-grown p (marking v s))
 run-grown (read f) s = run-grown (f s) s

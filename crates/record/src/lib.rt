@@ -3,7 +3,7 @@
 ghost use mathlib.Core.Path.{_≡_};
 ghost use mathlib.Core.List.{map};
 ghost use mathlib.Core.Option.{none};
-ghost use Prim.Native.Nat.{ℕ, _≤_};
+ghost use Prim.Native.Nat.{_<_, _≤_};
 ghost use lib.ListN.{getD, length, set};
 ghost use Rattle.theory.specs.Start;
 ghost use Rattle.type_table.specs.Memory.{cell, kindOf, numbered};
@@ -13,7 +13,7 @@ ghost use Rattle.type_table.specs.Sound.{fixed-types};
 ghost use Rattle.nodes.specs.Nodes.{itemsOf};
 ghost use Rattle.record.specs.Own.{errors-at, log-at, rawsOf, blank, nodeType, resTag, resValue, extraTag, extraValue, kindNumber, spanTag, spanValue, secondTag, secondValue, errorWritten};
 ghost use Rattle.record.specs.Steps.{orNil, set-node-type, set-extra, set-final, new-infer-var, array-of, ref-to, fn-def, make-lambda, make-function, mark-var, error, equation};
-ghost use Rattle.record.specs.Encodes.{Encodes, Runs, Does, Gives, Equates};
+ghost use Rattle.record.specs.Encodes.{answerWord, Encodes, Runs, Does, Gives, Equates};
 ghost use Rattle.record.specs.Operations.{withMade, node-cells, cleared};
 ghost use Rattle.record.specs.Answers.{typeIn, pushAll, Logs, Fails};
 use nodes::Items;
@@ -332,9 +332,10 @@ pub fn emit(m: &mut [u16], c: Record, e: TypingError) -> Record
 
 // ── equations ──
 
-// Logs an equation, as far as the memory reaches.
-fn log(m: &mut [u16], c: Record, x: TypeId, y: TypeId, answer: u16) -> Record
-    ensures { λ r. ⌜ Logs (now (m .entry)) c (x .0) (y .0) answer (now (m .exit)) r ⌝ }
+// Logs an equation of the rule of the node n, as far as the memory reaches.
+fn log(m: &mut [u16], c: Record, n: NodeId, x: TypeId, y: TypeId, answer: u16) -> Record
+    requires { ⌜ answer < 16 ⌝ }
+    ensures { λ r. ⌜ Logs (now (m .entry)) c (x .0) (y .0) (answerWord answer (n .0)) (now (m .exit)) r ⌝ }
 {
     let counts = c.counts;
     let errors = c.errors;
@@ -347,10 +348,11 @@ fn log(m: &mut [u16], c: Record, x: TypeId, y: TypeId, answer: u16) -> Record
     let g = type_table::clip(counts, y);
     let a = e.0;
     let b = g.0;
+    let p = n.0;
     let at = LOG_AT + k as usize * 3;
     write(m, at, a);
     write(m, at + 1, b);
-    write(m, at + 2, answer);
+    write(m, at + 2, answer + p % 4096 * 16);
     Record {
         counts: counts,
         errors: errors,
@@ -367,8 +369,8 @@ pub enum Equated {
 }
 
 // A mismatch, logged, and its error with CAUSE 1.
-fn failed(m: &mut [u16], c: Record, x: TypeId, y: TypeId, e: TypingError) -> Equated
-    ensures { λ r. ⌜ Fails (now (m .entry)) c (x .0) (y .0) e (now (m .exit)) r ⌝ }
+fn failed(m: &mut [u16], c: Record, n: NodeId, x: TypeId, y: TypeId, e: TypingError) -> Equated
+    ensures { λ r. ⌜ Fails (now (m .entry)) c (n .0) (x .0) (y .0) e (now (m .exit)) r ⌝ }
 {
     let k = e.kind;
     let at = e.at;
@@ -376,7 +378,7 @@ fn failed(m: &mut [u16], c: Record, x: TypeId, y: TypeId, e: TypingError) -> Equ
     let a = e.a;
     let b = e.b;
     let third = e.c;
-    let d = log(m, c, x, y, 1);
+    let d = log(m, c, n, x, y, 1);
     let r = emit(
         m,
         d,
@@ -393,23 +395,23 @@ fn failed(m: &mut [u16], c: Record, x: TypeId, y: TypeId, e: TypingError) -> Equ
     Equated::Failed(r)
 }
 
-// Raises the equation of the rows x, expected, and y, got; a mismatch emits the error e.
-pub fn equate(m: &mut [u16], c: Record, x: TypeId, y: TypeId, e: TypingError) -> Equated
-    ensures { λ r. ⌜ ((n : ℕ) → Equates (now (m .entry)) c (now (m .exit)) n r (equation n (x .0) (y .0) e)) ⌝ }
+// Raises, in the rule of the node n, the equation of the rows x, expected, and y, got; a mismatch emits the error e.
+pub fn equate(m: &mut [u16], c: Record, n: NodeId, x: TypeId, y: TypeId, e: TypingError) -> Equated
+    ensures { λ r. ⌜ Equates (now (m .entry)) c (now (m .exit)) (n .0) r (equation (n .0) (x .0) (y .0) e) ⌝ }
 {
     let d = c.counts;
     match unify::unify(m, d, x, y) {
         Answer::Success => {
-            let r = log(m, c, x, y, 0);
+            let r = log(m, c, n, x, y, 0);
             Equated::Met(r)
         }
-        Answer::Mismatch => failed(m, c, x, y, e),
+        Answer::Mismatch => failed(m, c, n, x, y, e),
         Answer::Refused12 => {
-            let r = log(m, c, x, y, 12);
+            let r = log(m, c, n, x, y, 12);
             Equated::Refused(12, r)
         }
         Answer::Refused13 => {
-            let r = log(m, c, x, y, 13);
+            let r = log(m, c, n, x, y, 13);
             Equated::Refused(13, r)
         }
     }

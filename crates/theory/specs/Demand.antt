@@ -104,14 +104,14 @@ not-diverges rows x (plain-base c p) d = clash (cc)
 not-diverges rows x (plain-var v p) d = clash (cc)
 not-diverges rows x (plain-array e p h) d = clash (cc)
 
-module _ (rows : List Shape) (kinds : List Kind) (m : Mem) (log : List Equation) (claim : Claim rows kinds (m .binds) log) (e g : ℕ) (he : e < length rows) (hg : g < length rows) where
+module _ (rows : List Shape) (kinds : List Kind) (m : Mem) (log : List Equation) (claim : Claim rows kinds (m .binds) log) (p e g : ℕ) (he : e < length rows) (hg : g < length rows) where
   -- the result of the equation
   abbrev pub answered : Res
   answered = solve rows kinds m e g
 
   -- the equation as it is logged
   abbrev pub logged : Equation
-  logged = record { expected = e; got = g; answer = answered .0 }
+  logged = record { node = p; expected = e; got = g; answer = answered .0 }
 
   fair : PlainBound rows (m .binds) → Fair rows (m .binds)
   fair p = record { plain = p; meant = λ x v q. claim .good .meant x v (ap asVar q) }
@@ -268,22 +268,22 @@ module _ {X Er : Type 0} where
       by true e = pooled-track e (firstEqual 0 (s .rows) u)
       by false e = t
 
-  raised-tables : (e g : ℕ) (s : St X Er) → Tables (s .rows) (s .kinds) (s .origins) (s .mem) (s .log) → e < length (s .rows) → g < length (s .rows) → Tables (s .rows) (s .kinds) (s .origins) ((solved e g s) .1) ((raised e g (solved e g s) s) .log)
+  raised-tables : (p e g : ℕ) (s : St X Er) → Tables (s .rows) (s .kinds) (s .origins) (s .mem) (s .log) → e < length (s .rows) → g < length (s .rows) → Tables (s .rows) (s .kinds) (s .origins) ((solved e g s) .1) ((raised p e g (solved e g s) s) .log)
   unfolding raised
-  raised-tables e g s t he hg =
-      let k = answered-kept (s .rows) (s .kinds) (s .mem) (s .log) (t .claim) e g he hg in
+  raised-tables p e g s t he hg =
+      let k = answered-kept (s .rows) (s .kinds) (s .mem) (s .log) (t .claim) p e g he hg in
       record {
-        claim = claim⁺ (s .rows) (s .kinds) (s .mem) (s .log) (t .claim) e g he hg;
+        claim = claim⁺ (s .rows) (s .kinds) (s .mem) (s .log) (t .claim) p e g he hg;
         origins-sized = t .origins-sized ∙ sym (k .binds-length);
         marks-sized = k .marks-length ∙ t .marks-sized ∙ sym (k .binds-length);
       }
 
   -- the answer r that the equation had, and what comes after it
-  react-track : {A : Type 0} (p e g : ℕ) (s : St X Er) (r : Res) → Track s → Tables (s .rows) (s .kinds) (s .origins) (r .1) ((raised e g r s) .log) → (o : Out) → r .0 ≡ o → (f : Out → Er) (k : Bool → St X Er → Option A × St X Er)
-      → ((c : Bool) (s′ : St X Er) → Track s′ → Track ((k c s′) .1)) → Track ((react p o f k (raised e g r s)) .1)
+  react-track : {A : Type 0} (p e g : ℕ) (s : St X Er) (r : Res) → Track s → Tables (s .rows) (s .kinds) (s .origins) (r .1) ((raised p e g r s) .log) → (o : Out) → r .0 ≡ o → (f : Out → Er) (k : Bool → St X Er → Option A × St X Er)
+      → ((c : Bool) (s′ : St X Er) → Track s′ → Track ((k c s′) .1)) → Track ((react p o f k (raised p e g r s)) .1)
   unfolding raised emitted refused
-  react-track p e g s r t d success q f k h = h true (raised e g r s) (record { tables = d; clean = λ i j. (q, t .clean i j) })
-  react-track p e g s r t d mismatch q f k h = h false (emitted (f mismatch) (raised e g r s)) (record { tables = d; clean = λ i j. clash (cc) })
+  react-track p e g s r t d success q f k h = h true (raised p e g r s) (record { tables = d; clean = λ i j. (q, t .clean i j) })
+  react-track p e g s r t d mismatch q f k h = h false (emitted (f mismatch) (raised p e g r s)) (record { tables = d; clean = λ i j. clash (cc) })
   react-track p e g s r t d refused12 q f k h = record { tables = d; clean = λ i j. clash (cc) }
   react-track p e g s r t d refused13 q f k h = record { tables = d; clean = λ i j. clash (cc) }
   react-track p e g s r t d dry q f k h = record { tables = d; clean = λ i j. clash (cc) }
@@ -300,7 +300,7 @@ module _ {X Er : Type 0} where
       let g = clip (length (s .rows)) y in
       let he = clip-in (length (s .rows)) x (t .tables .claim .some-row) in
       let hg = clip-in (length (s .rows)) y (t .tables .claim .some-row) in
-      react-track p e g s (solved e g s) t (raised-tables e g s (t .tables) he hg) ((solved e g s) .0) refl f (λ c s′. run (k c) s′) (λ c s′ t′. track (k c) s′ t′)
+      react-track p e g s (solved e g s) t (raised-tables p e g s (t .tables) he hg) ((solved e g s) .0) refl f (λ c s′. run (k c) s′) (λ c s′ t′. track (k c) s′ t′)
   track (emit e p) s t = track p (emitted e s) (record { tables = t .tables; clean = λ i j. clash (cc) })
   track (mark v p) s t = track p (marking v s) (record { tables = record { claim = t .tables .claim; origins-sized = t .tables .origins-sized; marks-sized = length-set (s .mem .marks) v true ∙ t .tables .marks-sized }; clean = t .clean })
   track (read f) s t = track (f s) s t

@@ -27,7 +27,7 @@ end = (run worked (start fields tt)) .1
 
 -- one made type, the variable's; the variable is bound to i32; two equations, both successes; no error, no refusal
 pub worked-end : (end .rows ≡ fields ++ var 0 ∷ []) × (end .kinds ≡ integer ∷ []) × (end .origins ≡ none ∷ []) × (end .mem ≡ record { binds = some 8 ∷ []; marks = false ∷ [] }) × (end .errs ≡ []) × (end .stop ≡ none)
-    × (end .log ≡ record { expected = 8; got = 8; answer = success } ∷ record { expected = 8; got = 14; answer = success } ∷ [])
+    × (end .log ≡ record { node = 6; expected = 8; got = 8; answer = success } ∷ record { node = 5; expected = 8; got = 14; answer = success } ∷ [])
 unfolding worked start run drawn raised emitted refused solve unify choose split atVar act leads seek pass bind ℕ-discrete
 worked-end = (refl, refl, refl, refl, refl, refl, refl)
 

@@ -65,6 +65,8 @@ sane n s = noVar (asVar s) && allBelow n (kids s)
 
 -- an equation as it was raised, with its answer
 pub record Equation : Type 0 where
+  -- the node whose rule raised it
+  pub node : ℕ
   pub expected : ℕ
   pub got : ℕ
   pub answer : Out
@@ -130,9 +132,9 @@ module _ {X Er : Type 0} where
   unfoldable pub marking : ℕ → St X Er → St X Er
   marking v s = record { rows = s .rows; kinds = s .kinds; origins = s .origins; mem = record { binds = s .mem .binds; marks = set (s .mem .marks) v true }; log = s .log; errs = s .errs; stop = s .stop; own = s .own }
 
-  -- an equation was raised: its bindings and marks, and its entry in the log
-  unfoldable pub raised : ℕ → ℕ → Res → St X Er → St X Er
-  raised e g r s = record { rows = s .rows; kinds = s .kinds; origins = s .origins; mem = r .1; log = record { expected = e; got = g; answer = r .0 } ∷ s .log; errs = s .errs; stop = s .stop; own = s .own }
+  -- an equation was raised at the node p: its bindings and marks, and its entry in the log
+  unfoldable pub raised : ℕ → ℕ → ℕ → Res → St X Er → St X Er
+  raised p e g r s = record { rows = s .rows; kinds = s .kinds; origins = s .origins; mem = r .1; log = record { node = p; expected = e; got = g; answer = r .0 } ∷ s .log; errs = s .errs; stop = s .stop; own = s .own }
 
   -- the row that stands for a made type: the first equal one, else a new one
   abbrev pub pooled : Shape → Option ℕ → St X Er → ℕ × St X Er
@@ -187,7 +189,7 @@ module _ {X Er : Type 0} where
   run (equate p x y f k) s =
       let e = clip (length (s .rows)) x in
       let g = clip (length (s .rows)) y in
-      react p ((solved e g s) .0) f (λ c s′. run (k c) s′) (raised e g (solved e g s) s)
+      react p ((solved e g s) .0) f (λ c s′. run (k c) s′) (raised p e g (solved e g s) s)
   run (emit e p) s = run p (emitted e s)
   run (mark v p) s = run p (marking v s)
   run (read f) s = run (f s) s
@@ -227,7 +229,7 @@ module _ {X Er : Type 0} where
   run-bind (equate p x y f k) g s =
       let e = clip (length (s .rows)) x in
       let d = clip (length (s .rows)) y in
-      react-bind p ((solved e d s) .0) f (λ c s′. run (k c) s′) (λ a s′. run (g a) s′) (λ c s′. run (_>>=_ (k c) g) s′) (raised e d (solved e d s) s) (λ c s′. run-bind (k c) g s′)
+      react-bind p ((solved e d s) .0) f (λ c s′. run (k c) s′) (λ a s′. run (g a) s′) (λ c s′. run (_>>=_ (k c) g) s′) (raised p e d (solved e d s) s) (λ c s′. run-bind (k c) g s′)
   run-bind (emit e p) g s = run-bind p g (emitted e s)
   run-bind (mark v p) g s = run-bind p g (marking v s)
   run-bind (read f) g s = run-bind (f s) g s

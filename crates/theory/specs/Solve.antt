@@ -68,7 +68,7 @@ module _ (rows : List Shape) (kinds : List Kind) where
   module _ (p : Pair) (ps : List Pair) (m : Mem) (log : List Equation) (c : Claim rows kinds (m .binds) log) (o : All Went log) (s : All (Sided rows) log) (h : Posed rows p) where
     -- the log with the first equation
     abbrev log⁺ : List Equation
-    log⁺ = logged rows kinds m log c (p .0) (p .1) (h .0) (h .1) ∷ log
+    log⁺ = logged rows kinds m log c 0 (p .0) (p .1) (h .0) (h .1) ∷ log
 
     -- by the answer of the first
     join : (q : Out) (m′ : Mem) → (solve rows kinds m (p .0) (p .1)) .0 ≡ q → Claim rows kinds (m′ .binds) log⁺ → (All Went log⁺ → VerdictOf (Asked log⁺ ps) (solves ps m′)) → VerdictOf (Asked log (p ∷ ps)) (onward q m′ (λ m″. solves ps m″))
@@ -87,7 +87,7 @@ module _ (rows : List Shape) (kinds : List Kind) where
       (λ w l. (λ a. x w l .1 (a .0), λ a. (x w l .0 a, tt)), (u, k, (x u k .0 (way-agrees rows kinds (c .lower) (m .binds) (c .good)), tt)))
   solves-told (p ∷ ps) m log c o s h =
       let r = solve rows kinds m (p .0) (p .1) in
-      let d = claim⁺ rows kinds m log c (p .0) (p .1) (h .0 .0) (h .0 .1) in
+      let d = claim⁺ rows kinds m log c 0 (p .0) (p .1) (h .0 .0) (h .0 .1) in
       join p ps m log c o s (h .0) (r .0) (r .1) refl d (λ w. solves-told ps (r .1) (log⁺ p ps m log c o s (h .0)) d w (h .0 .2, s) (h .1))
 
   -- from nothing bound: the answer is success only if there is a common solution, and a mismatch or 12 only if there is none

@@ -48,8 +48,8 @@ pub enough-steps : (m : List ℕ) (c : Counts) → Sound m c → (x y : TypeId) 
 enough-steps = keeps.never-dry
 
 -- it does what the step `equate` of a program does with the tables in the memory
-pub equate-step : (m : List ℕ) (c : Counts) → Sound m c → (x y : TypeId) (w : List ℕ) (r : Answer) → Solved m c x y w r → {X Er : Type 0} (t : St X Er) → let e = rowOf c x in let g = rowOf c y in let q = solved e g (stateOf m c t) in
-    (stateOf w c (raised e g q t) ≡ raised e g q (stateOf m c t)) × (r ≡ answerIs (q .0))
+pub equate-step : (m : List ℕ) (c : Counts) → Sound m c → (x y : TypeId) (w : List ℕ) (r : Answer) → Solved m c x y w r → {X Er : Type 0} (p : ℕ) (t : St X Er) → let e = rowOf c x in let g = rowOf c y in let q = solved e g (stateOf m c t) in
+    (stateOf w c (raised p e g q t) ≡ raised p e g q (stateOf m c t)) × (r ≡ answerIs (q .0))
 equate-step = keeps.unify-step
 
 -- ── 2. what an answer says, both sides and all bindings plain ──

@@ -69,10 +69,10 @@ module _ (m : List ℕ) (c : Counts) (sound : Sound m c) (x y : TypeId) (w : Lis
   origins-same = origins-kept m w (c .vars) (λ v h. by-itself .frame .same (v * 5 + 1) (λ u k a b d e. omega arith))
 
   -- `unify` does what the step `equate` of a program does with the tables in the memory: the same answer, bindings and marks
-  pub unify-step : {X Er : Type 0} (t : St X Er) → let e = clip (c .types) (x .0) in let g = clip (c .types) (y .0) in let q = solved e g (stateOf m c t) in
-      (stateOf w c (raised e g q t) ≡ raised e g q (stateOf m c t)) × (r ≡ answerIs (q .0))
+  pub unify-step : {X Er : Type 0} (p : ℕ) (t : St X Er) → let e = clip (c .types) (x .0) in let g = clip (c .types) (y .0) in let q = solved e g (stateOf m c t) in
+      (stateOf w c (raised p e g q t) ≡ raised p e g q (stateOf m c t)) × (r ≡ answerIs (q .0))
   unfolding stateOf raised solveIn
-  unify-step t =
+  unify-step p t =
       let held : Held m c = laid-held (sound .laid) in
       (rw (rows-same m c w (by-itself .frame) held (c .types), kinds-same m c w (by-itself .frame) held (c .vars), origins-same, by-itself .memory), by-itself .answer)
 

@@ -10,4 +10,4 @@ failed-spec =
     (λ c κs. search needs)
     (λ c κs. search needs)
     (λ c. search needs)
-    (λ c. failed-fails _ _ _ _ _ _ _ _ (c .before .before .before .before .before .before .before .before .before .args .e) _ refl (c .before .before .before .before .before .before .log .ensures) (c .before .before .emit .ensures)))
+    (λ c. failed-fails _ _ _ _ _ _ _ _ _ (c .before .before .before .before .before .before .before .before .before .args .e) _ refl (c .before .before .before .before .before .before .log .ensures) (c .before .before .emit .ensures)))
