@@ -1,0 +1,102 @@
+-- What is claimed of request f), one citation each: of the log of any walk, whatever it walks over. Start here. Each assumption is an argument of the statement.
+-- `Solvable` and `Unsolvable`, `Left` and `Minimal` are in Deletion: none of them runs a checker. `conflictOf`, the set that the tool's promise names, is in Worked.
+use mathlib.Core.Path.{_≡_, refl, sym, subst, _∙_}
+use mathlib.Core.List.{List, [], _∷_}
+use mathlib.Core.Option.{Option, none, some}
+use mathlib.Core.Bool.{Bool, true, false}
+use Prim.Native.Nat.{ℕ, suc, zero, _-_, _<_}
+use native.Mathlib.Omega.{arith}
+use lib.ListN.{length}
+use Rattle.theory.specs.Rules.{Shape, Kind, Pair}
+use Rattle.theory.specs.Program.{Equation, Prog, run}
+use Rattle.theory.specs.Basics.{All, all-map2}
+use Rattle.theory.specs.Ways.{Way, Kinded, Inside}
+use Rattle.theory.specs.Demand.{Claim}
+use Rattle.theory.specs.Start.{start}
+use Rattle.theory.specs.Solve.{Posed, Solves}
+use Rattle.conflict_theory.specs.Deletion.{Solvable, Unsolvable, Left, Minimal, left-minimal, left-one, leave-left}
+use Rattle.conflict_theory.specs.Scan.{scan, scan-left}
+use Rattle.conflict_theory.specs.Code.{scanIn, scan-same}
+use Rattle.conflict_theory.specs.Test.{Sound, MeetsAt, ok, ok-yes, ok-no}
+use Rattle.conflict_theory.specs.Worked.{untilFailed, inOrder, sidesAt, numbers, from, PlainPair, plain-sided, conflictOf, None13, order-all, each-at, from-below, untilFailed-part, worked-none}
+use Rattle.conflict_theory.specs.Thirteen.{ZeroOr12}
+use Rattle.conflict_theory.specs.Thirteen as thirteen
+
+from-length : (a n : ℕ) → length (from a n) ≡ n
+unfolding from
+from-length a zero = refl
+from-length a (suc n) = let h = from-length (suc a) n in omega (arith, h)
+
+-- of a walk that is answered 0 or 12, no equation was refused 13
+pub none-13 : {X Er A : Type 0} (rows : List Shape) (own : X) (p : Prog X Er A) → ZeroOr12 ((run p (start rows own)) .1 .stop) → None13 ((run p (start rows own)) .1 .log)
+none-13 = thirteen.none-13
+
+module _ (rows : List Shape) (kinds : List Kind) (b : List (Option ℕ)) (log : List Equation) (claim : Claim rows kinds b log) (calm : None13 log)
+    (k : List Equation) (worked : untilFailed log ≡ some k) (plain : All (PlainPair rows) (inOrder k)) where
+  -- "the equations, by number from 0 in the order raised", "up to and including the first that failed with cause 1 or was refused 12"
+  abbrev pub equations : List Pair
+  equations = inOrder k
+
+  -- their numbers
+  abbrev pub all : List ℕ
+  all = numbers equations
+
+  -- a way meets the equation of a number
+  abbrev pub Met : Way → ℕ → Type 0
+  Met w i = MeetsAt rows kinds (sidesAt equations) w i
+
+  -- a number of theirs
+  abbrev pub Numbered : ℕ → Type 0
+  Numbered i = i < length equations
+
+  all-numbered : All Numbered all
+  all-numbered = from-below 0 (length equations) (length equations) (omega arith)
+
+  posed : (i : ℕ) → Numbered i → Posed rows (sidesAt equations i)
+  posed =
+      each-at (Posed rows) equations
+      (all-map2 (λ (p : Pair). (p .0 < length rows) × (p .1 < length rows)) (PlainPair rows) (Posed rows) equations (λ p i h. (i .0, i .1, plain-sided rows p h))
+      (order-all (λ (p : Pair). (p .0 < length rows) × (p .1 < length rows)) k .0 (untilFailed-part (Inside rows) log k worked (claim .inside))) plain)
+
+  sound : Sound rows kinds
+  sound = record { lower = claim .lower; some-row = claim .some-row; meant = λ x v e. omega (arith, claim .good .meant x v e, claim .kinds-sized) }
+
+  -- they have no common solution
+  pub all-none : Unsolvable (Kinded kinds) Met all
+  all-none = worked-none rows kinds b log claim calm k worked plain
+
+  -- with the sides of each equation read wherever they are, `at`
+  module _ (at : ℕ → Pair) (agrees : (i : ℕ) → Numbered i → at i ≡ sidesAt equations i) where
+    met-same : (w : Way) (i : ℕ) → Numbered i → (MeetsAt rows kinds at w i → Met w i) × (Met w i → MeetsAt rows kinds at w i)
+    met-same w i h = (λ m. subst (Solves rows w) (agrees i h) m, λ m. subst (Solves rows w) (sym (agrees i h)) m)
+
+    posed-at : (i : ℕ) → Numbered i → Posed rows (at i)
+    posed-at i h = subst (Posed rows) (sym (agrees i h)) (posed i h)
+
+    -- unification from nothing bound and nothing marked tells which of them have a common solution
+    pub test-yes : (l : List ℕ) → All Numbered l → ok rows kinds at l ≡ true → Solvable (Kinded kinds) Met l
+    test-yes l h e = let s = ok-yes rows kinds sound at Numbered posed-at l h e in (s .0, s .1, all-map2 Numbered (MeetsAt rows kinds at (s .0)) (Met (s .0)) l (λ i n. met-same (s .0) i n .0) h (s .2))
+
+    -- and which have none
+    pub test-no : (l : List ℕ) → All Numbered l → ok rows kinds at l ≡ false → Unsolvable (Kinded kinds) Met l
+    test-no l h e s = ok-no rows kinds sound at Numbered posed-at l h e (s .0, s .1, all-map2 Numbered (Met (s .0)) (MeetsAt rows kinds at (s .0)) l (λ i n. met-same (s .0) i n .1) h (s .2))
+
+  -- "drops from number 0 up each one whose removal leaves the rest unsolvable": that is what is left, by ways
+  pub conflict-left : Left (Kinded kinds) Met [] all (conflictOf rows kinds equations)
+  unfolding conflictOf
+  conflict-left = leave-left (ok rows kinds (sidesAt equations)) (Kinded kinds) Met Numbered (test-yes (sidesAt equations) (λ i h. refl)) (test-no (sidesAt equations) (λ i h. refl)) [] all all-numbered
+
+  -- and nothing else is
+  pub conflict-only : (r : List ℕ) → Left (Kinded kinds) Met [] all r → r ≡ conflictOf rows kinds equations
+  conflict-only r h = left-one (Kinded kinds) Met [] all r (conflictOf rows kinds equations) h conflict-left
+
+  -- "The answer is proved to be such a set": it has no common solution, and "Removing any single one of them must leave the others solvable"
+  pub conflict-minimal : Minimal (Kinded kinds) Met (conflictOf rows kinds equations)
+  conflict-minimal = left-minimal (Kinded kinds) Met all (conflictOf rows kinds equations) all-none conflict-left
+
+  -- the scans of the code, one from the last equation back for each one kept, each equation unified once on top of those before it, find this set
+  pub code-conflict : (at : ℕ → Pair) → ((i : ℕ) → Numbered i → at i ≡ sidesAt equations i) → scanIn rows kinds at (length equations) (length equations) [] 0 ≡ conflictOf rows kinds equations
+  code-conflict at agrees =
+      let z : length equations - 0 ≡ length equations = omega arith in
+      (rw z at (scan-same rows kinds at (Kinded kinds) Met Numbered (test-yes at agrees) (test-no at agrees) (length equations) (length equations) [] 0 (omega arith) (rw z all-numbered)))
+      ∙ conflict-only (scan (ok rows kinds at) (length equations) [] all) (scan-left (ok rows kinds at) (Kinded kinds) Met Numbered (test-yes at agrees) (test-no at agrees) (length equations) [] all (omega (arith, from-length 0 (length equations))) all-numbered all-none)

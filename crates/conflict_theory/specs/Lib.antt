@@ -1,0 +1,11 @@
+pub mod Sets
+pub mod Deletion
+pub mod Scan
+pub mod Marks
+pub mod Test
+pub mod Worked
+pub mod Thirteen
+pub mod Plains
+pub mod Code
+pub mod Claims
+pub mod Example

@@ -1,0 +1,1 @@
+// Minimal conflicts among the equations of a walk: definitions and theorems, no code.
