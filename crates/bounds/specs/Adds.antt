@@ -143,9 +143,9 @@ unfolding marking
 marking-larger v s = record { vars = omega arith; rows = omega arith; inputs = omega arith; errors = omega arith; equations = omega arith }
 
 -- one equation more
-raised-larger : (e g : ℕ) (r : Res) (s : State) → Larger (cost 0 0 0 0 1) s (raised e g r s)
+raised-larger : (p e g : ℕ) (r : Res) (s : State) → Larger (cost 0 0 0 0 1) s (raised p e g r s)
 unfolding raised
-raised-larger e g r s = record { vars = omega arith; rows = omega arith; inputs = omega arith; errors = omega arith; equations = omega arith }
+raised-larger p e g r s = record { vars = omega arith; rows = omega arith; inputs = omega arith; errors = omega arith; equations = omega arith }
 
 -- an equation that is answered emits at most one error
 react-larger : (p : ℕ) (o : Out) (f : Out → TypingError) (s : State) → Larger (cost 0 0 0 1 0) s ((react p o f (λ c t. (some c, t)) s) .1)
@@ -157,8 +157,8 @@ react-larger p o f s =
     (larger-within (search needs) (refused-larger 13 p s))
 
 -- an equation is one more, and at most one error
-pub equated-larger : (p e g : ℕ) (r : Res) (f : Out → TypingError) (s : State) → Larger (cost 0 0 0 1 1) s ((react p (r .0) f (λ c t. (some c, t)) (raised e g r s)) .1)
-equated-larger p e g r f s = larger-trans (raised-larger e g r s) (react-larger p (r .0) f (raised e g r s))
+pub equated-larger : (p e g : ℕ) (r : Res) (f : Out → TypingError) (s : State) → Larger (cost 0 0 0 1 1) s ((react p (r .0) f (λ c t. (some c, t)) (raised p e g r s)) .1)
+equated-larger p e g r f s = larger-trans (raised-larger p e g r s) (react-larger p (r .0) f (raised p e g r s))
 
 -- ── programs ──
 

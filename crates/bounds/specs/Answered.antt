@@ -46,7 +46,7 @@ run-told (intern t f) s h = run-told (f ((interned t s) .0)) ((interned t s) .1)
 run-told (equate n x y e f) s h =
     let a = clip (length (s .rows)) x in
     let b = clip (length (s .rows)) y in
-    react-told n ((solved a b s) .0) e (λ c t. run (f c) t) (raised a b (solved a b s) s) h (λ c t. run-told (f c) t)
+    react-told n ((solved a b s) .0) e (λ c t. run (f c) t) (raised n a b (solved a b s) s) h (λ c t. run-told (f c) t)
 run-told (emit e p) s h = run-told p (emitted e s) h
 run-told (mark v p) s h = run-told p (marking v s) h
 run-told (read f) s h = run-told (f s) s h

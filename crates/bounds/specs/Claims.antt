@@ -1,6 +1,6 @@
 -- What is claimed of the walk over a well-formed body, one citation each: the limits of document 01 are never exceeded, its levels never run out, each type
 -- line has its number, functions stand at most 4 deep in one another, all types and variables are known, each number refers to what is there; then the promise of
--- `type_body`, what its answer says of the refusal, which number and place that has, and demand 3 for the equations of the body.
+-- `type_body`, what its answer says of the refusal, which number and place that has, at which nodes equations are raised, and demand 3 for the equations of the body.
 -- The body is what `type-body` of crate `resolve` says, over the tables that `read_body` leaves on 0 (`WellFormed` of crate `well_formed`), from the
 -- fixed types and no node typed; `Fits` of crate `record` says that no table of a state is over its limit.
 use mathlib.Core.Path.{_≡_, refl}
@@ -39,6 +39,7 @@ use Rattle.bounds.specs.Confined.{isMade}
 use Rattle.bounds.specs.Made as made
 use Rattle.bounds.specs.Answered.{answered, unanswered}
 use Rattle.bounds.specs.Refusals.{body-placed}
+use Rattle.bounds.specs.Raised.{body-raised}
 use Rattle.bounds.specs.Refers.{Refers, refers}
 use Rattle.bounds.specs.InRows.{InRows, declared-state, body-in-rows}
 use Rattle.bounds.specs.Demand.{end, without-error, first-failure}
@@ -222,6 +223,10 @@ module _ (n : Counts) (rows cells : List ℕ) where
   pub refusal-number-and-place : WellFormed n rows cells → (run (type-body n rows cells) (first-state rows cells)) .0 ≡ none
       → (k : ℕ) × (p : ℕ) × (last-state n rows cells .stop ≡ some (k, p)) × (10 ≤ k) × (k ≤ 13) × (p < n .nodes)
   refusal-number-and-place w e = let r = not-answered-0 e in let q = body-placed n rows cells w _ (r .0) (r .1) (r .2) in (r .0, r .1, r .2, q .least, q .most, q .lower)
+
+  -- and each equation was raised by the rule of one of its nodes
+  pub equations-at-nodes : WellFormed n rows cells → All (λ (q : Equation). q .node < n .nodes) (end n rows cells .log)
+  equations-at-nodes w = body-raised n rows cells w _
 
   -- answered 0 without an error, the sides plain or Diverges got: a way meets all the equations of the body exactly when it agrees with the bindings in which its walk ends,
   -- and at least one such way exists

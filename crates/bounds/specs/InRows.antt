@@ -37,7 +37,7 @@ module _ {A : Type 0} where
   InRows (equate n x y e f) s =
       let a = clip (length (s .rows)) x in
       let b = clip (length (s .rows)) y in
-      (x < length (s .rows)) × (y < length (s .rows)) × Behind ((solved a b s) .0) e (λ c t. InRows (f c) t) (raised a b (solved a b s) s)
+      (x < length (s .rows)) × (y < length (s .rows)) × Behind ((solved a b s) .0) e (λ c t. InRows (f c) t) (raised n a b (solved a b s) s)
   InRows (emit e p) s = InRows p (emitted e s)
   InRows (mark v p) s = InRows p (marking v s)
   InRows (read f) s = OwnTypes (λ x. x < length (s .rows)) (s .own) × InRows (f s) s
@@ -200,7 +200,7 @@ run-in-rows N (equate n x y e f) s I H =
     let b = clip (length (s .rows)) y in (
       q .2,
       q .3,
-      by ((solved a b s) .0) (raised a b (solved a b s) s) (track (equate n x y e done) s (I .track)) (I .rows) (I .own)
+      by ((solved a b s) .0) (raised n a b (solved a b s) s) (track (equate n x y e done) s (I .track)) (I .rows) (I .own)
           (λ c t J l. run-in-rows N (f c) t J (λ T h. H T (λ z k. h z (omega (arith, l))) .4 c)),
     )
   where

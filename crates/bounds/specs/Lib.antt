@@ -16,5 +16,6 @@ pub mod InRows
 pub mod Made
 pub mod Answered
 pub mod Refusals
+pub mod Raised
 pub mod Demand
 pub mod Claims

@@ -90,7 +90,7 @@ module _ (l : List Shape) where
   run-more N (equate n x y e g) f s m =
       let a = clip (length (s .rows)) x in
       let b = clip (length (s .rows)) y in
-      let t = raised a b (solved a b s) s in
+      let t = raised n a b (solved a b s) s in
       react-cases (λ r. More l (r .1 .rows)) n ((solved a b s) .0) e (λ c u. run (g c) u) t (run-more N (g true) (f .4 true) t m) (run-more N (g false) (f .4 false) (emitted (e mismatch) t) m) m m
   run-more N (emit e p) f s m = run-more N p f (emitted e s) m
   run-more N (mark v p) f s m = run-more N p f (marking v s) m
@@ -125,7 +125,7 @@ module _ {A : Type 0} (P : State → Type 0) where
   AtEquations (equate n x y e f) s =
       let a = clip (length (s .rows)) x in
       let b = clip (length (s .rows)) y in
-      P s × Behind ((solved a b s) .0) e (λ c t. AtEquations (f c) t) (raised a b (solved a b s) s)
+      P s × Behind ((solved a b s) .0) e (λ c t. AtEquations (f c) t) (raised n a b (solved a b s) s)
   AtEquations (emit e p) s = AtEquations p (emitted e s)
   AtEquations (mark v p) s = AtEquations p (marking v s)
   AtEquations (read f) s = AtEquations (f s) s
@@ -142,7 +142,7 @@ at-confined P l h N (intern t g) f s m = at-confined P l h N (g ((interned t s) 
 at-confined P l h N (equate n x y e g) f s m =
     let a = clip (length (s .rows)) x in
     let b = clip (length (s .rows)) y in
-    let t = raised a b (solved a b s) s in
+    let t = raised n a b (solved a b s) s in
     (h s m, behind-cases ((solved a b s) .0) e (λ c u. AtEquations P (g c) u) t (at-confined P l h N (g true) (f .4 true) t m) (at-confined P l h N (g false) (f .4 false) (emitted (e mismatch) t) m))
 at-confined P l h N (emit e p) f s m = at-confined P l h N p f (emitted e s) m
 at-confined P l h N (mark v p) f s m = at-confined P l h N p f (marking v s) m

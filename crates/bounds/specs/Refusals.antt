@@ -41,7 +41,7 @@ run-placed N (intern t f) c s h = run-placed N (f ((interned t s) .0)) (c .3 ((i
 run-placed N (equate n x y e f) c s h =
     let a = clip (length (s .rows)) x in
     let b = clip (length (s .rows)) y in
-    react-placed (N .nodes) n ((solved a b s) .0) e (λ d t. run (f d) t) (raised a b (solved a b s) s) (c .0) (c .1) h (λ d t. run-placed N (f d) (c .4 d) t)
+    react-placed (N .nodes) n ((solved a b s) .0) e (λ d t. run (f d) t) (raised n a b (solved a b s) s) (c .0) (c .1) h (λ d t. run-placed N (f d) (c .4 d) t)
 run-placed N (emit e p) c s h = run-placed N p c (emitted e s) h
 run-placed N (mark v p) c s h = run-placed N p c (marking v s) h
 run-placed N (read f) c s h = run-placed N (f s) (c s (any-state s)) s h

@@ -14,6 +14,7 @@ use Rattle.theory.specs.Basics.{All}
 use Rattle.theory.specs.Ways.{Way, Kinded, Agrees, Sided, Meets, Went, Failed}
 use Rattle.type_table.specs.declared.NodeId.{NodeId}
 use Rattle.forms.specs.declared.Fault.{Fault}
+use Rattle.refs.specs.declared.Counts.{Counts}
 use Rattle.body.specs.declared.Answer.the-variants as reading
 use Rattle.body.specs.Body.{most-bytes}
 use Rattle.bounds.specs.Confined.{isMade}
@@ -96,6 +97,10 @@ module _ (s : List ℕ) (l : Lent) where
   -- the types and kinds in the tables are those of the file
   pub held-types : (t : Totals) → result .answer ≡ answer.Checked t → (typesHeld t (result .tables) ≡ typesOf s) × (kindsHeld t (result .tables) ≡ kindsOf s)
   held-types = demand.held-types s l
+
+-- each equation of a file that was read was raised by the rule of one of its nodes
+pub equations-at-nodes : (s : List ℕ) (n : Counts) → readingOf s .answer ≡ reading.Body n → All (λ (q : Equation). q .node < n .nodes) (equationsOf s)
+equations-at-nodes = demand.at-nodes
 
 -- whatever the answer and whatever is lent, the sides so up to and including the first equation q that fails or is refused 12: no way meets all the equations up to and
 -- including that one. The newest equation stands first

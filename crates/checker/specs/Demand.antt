@@ -49,6 +49,10 @@ module _ (s : List ℕ) where
   unfolding stateOf
   state-is n e = ap (λ (a : Reading). stateBy a (readingOf s .rows) (readingOf s .cells)) e
 
+  -- each equation was raised by the rule of a node of the file
+  pub at-nodes : (n : Counts) → readingOf s .answer ≡ reading.Body n → All (λ (q : Equation). q .node < n .nodes) (equationsOf s)
+  at-nodes n e = rw (state-is n e) (walk.equations-at-nodes n (readingOf s .rows) (readingOf s .cells) (read-well-formed s n e))
+
   -- no way meets the equations up to and including the first that failed
   pub no-way : (after before : List Equation) (q : Equation) → equationsOf s ≡ after ++ q ∷ before → Failed (q .answer) → All Went before → All (Sided (typesOf s)) (q ∷ before)
       → (w : Way) → Kinded (kindsOf s) w → All (Meets (typesOf s) w) (q ∷ before) → ⊥

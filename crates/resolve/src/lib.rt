@@ -116,6 +116,7 @@ fn result(m: &mut [u16], c: Record, n: NodeId, y: TypeId) -> Ruled
     match record::equate(
         m,
         c,
+        n,
         x,
         y,
         TypingError {

@@ -123,7 +123,7 @@ fn equate_for(
 ) -> Typed
     ensures { λ r. ⌜ Types (now (m .entry)) c (now (m .exit)) r (equate-for (n .0) (x .0) (y .0) e (t .0)) ⌝ }
 {
-    match record::equate(m, c, x, y, e) {
+    match record::equate(m, c, n, x, y, e) {
         Equated::Met(d) => Typed::Type(d, t),
         Equated::Failed(d) => Typed::Type(d, t),
         Equated::Refused(k, d) => Typed::Refused(k, d, n),
@@ -134,7 +134,7 @@ fn equate_for(
 fn equate_on(m: &mut [u16], c: Record, n: NodeId, x: TypeId, y: TypeId, e: TypingError) -> Ruled
     ensures { λ r. ⌜ Rules (now (m .entry)) c (now (m .exit)) r (equate-on (n .0) (x .0) (y .0) e) ⌝ }
 {
-    match record::equate(m, c, x, y, e) {
+    match record::equate(m, c, n, x, y, e) {
         Equated::Met(d) => Ruled::Done(d),
         Equated::Failed(d) => Ruled::Done(d),
         Equated::Refused(k, d) => Ruled::Refused(k, d, n),
@@ -178,7 +178,7 @@ pub fn bin_op(
 ) -> Typed
     ensures { λ z. ⌜ Types (now (m .entry)) c (now (m .exit)) z (bin-op (n .0) o (l .0) (r .0) (x .0) (y .0)) ⌝ }
 {
-    match record::equate(m, c, x, y, between(ErrorKind::NoBinaryOp, l, r, x, y)) {
+    match record::equate(m, c, n, x, y, between(ErrorKind::NoBinaryOp, l, r, x, y)) {
         Equated::Met(d) => Typed::Type(d, bin_type(o, x)),
         Equated::Failed(d) => Typed::Type(d, TypeId(ERR)),
         Equated::Refused(k, d) => Typed::Refused(k, d, n),
@@ -476,6 +476,7 @@ fn let_declared(m: &mut [u16], c: Record, n: NodeId, x: TypeId, y: TypeId) -> Ru
     match record::equate(
         m,
         c,
+        n,
         x,
         y,
         mismatch(ErrorKind::TypeMismatch, Span::Node(n), x, y, 0),

@@ -1,22 +1,14 @@
 -- What each return and each turn of a loop over the cells of a table shows, over plain variables.
 use mathlib.Core.Path.{_≡_, refl, _∙_}
-use mathlib.Core.List.{List, [], _∷_}
+use mathlib.Core.List.{List}
 use Prim.Native.Nat.{ℕ, _+_, _-_, _*_, _≤_}
 use native.Mathlib.Omega.{arith}
-use native.Mathlib.Numerals.{add-one, towards-suc}
-use lib.ListN.{length, set, replicate}
+use native.Mathlib.Numerals.{add-one}
+use lib.ListN.{length, replicate}
 use lib.Seq.{sets, length-sets}
 use Rattle.table_cells.specs.Stores.{sets-behind, sets-whole}
-use Rattle.type_table.specs.Memory.{cell}
-use Rattle.tables.specs.Rows.{padded, cellsTo, threeIn}
+use Rattle.tables.specs.Rows.{padded, cellsTo}
 use Rattle.tables.specs.RowLaws.{length-cells, length-padded}
-
--- ── stores in a row ──
-
--- three cells of the memory
-pub three-stores : (m t t₁ w : List ℕ) (f j a b d : ℕ) → a ≡ cell m f → b ≡ cell m (f + 1) → d ≡ cell m (f + 2) → t₁ ≡ sets t j (a ∷ b ∷ []) → w ≡ set t₁ (j + 2) d → w ≡ sets t j (threeIn m f)
-unfolding threeIn
-three-stores m t t₁ w f j a b d p q r e g = rw (← p, ← q, ← r, g, e) (simp towards-suc)
 
 -- ── one row after another ──
 

@@ -1,28 +1,44 @@
 -- What each return and turn of the function over the table of equations shows, over plain variables.
 use mathlib.Core.Path.{_≡_, refl, sym, ap, _∙_}
 use mathlib.Core.List.{List, [], _∷_, append-nil}
-use Prim.Native.Nat.{ℕ, suc, zero, _+_, _-_, _*_, _≤_, _<_}
+use Prim.Native.Nat.{ℕ, suc, zero, _+_, _-_, _*_, _%_, _≤_, _<_}
 use native.Mathlib.Omega.{arith}
 use native.Mathlib.Decide.{ℕ-discrete}
-use lib.ListN.{length, replicate}
+use native.Mathlib.Numerals.{towards-suc}
+use lib.ListN.{length, set, replicate}
 use lib.Seq.{sets}
 use borrow.Author.Tests.{le-leb, lt-leb}
+use Rattle.theory.specs.Rules.{Out, success, mismatch, refused12, refused13, dry}
 use Rattle.theory.specs.Program.{Equation}
+use Rattle.type_table.specs.Memory.{cell}
 use Rattle.record.specs.declared.Record.{Record}
 use Rattle.record.specs.Own.{log-at}
-use Rattle.record.specs.Encodes.{LoggedAt, Logged}
-use Rattle.tables.specs.Rows.{padded, cellsTo, threeIn, Fills}
-use Rattle.tables.specs.Log.{equationRow, logTable, logRoom, equationIn}
+use Rattle.record.specs.Encodes.{answerNumber, answerWord, LoggedAt, Logged}
+use Rattle.tables.specs.Rows.{padded, cellsTo, Fills}
+use Rattle.tables.specs.Log.{equationRow, logTable, logRoom, equationAt, equationIn}
 use Rattle.tables.proofs.CellLaws.{rows-more, rows-filled}
+
+-- the cells of a row are stored
+pub row-stored : (m t t₁ w : List ℕ) (f j a b d : ℕ) → a ≡ cell m f → b ≡ cell m (f + 1) → d ≡ cell m (f + 2) → t₁ ≡ sets t j (a ∷ b ∷ []) → w ≡ set t₁ (j + 2) (d % 16) → w ≡ sets t j (equationAt m f)
+unfolding equationAt
+row-stored m t t₁ w f j a b d p q r e g = rw (← p, ← q, ← r, g, e) (simp towards-suc)
+
+-- the answer's number, out of the third cell of an equation
+word-answer : (o : Out) (n : ℕ) → answerWord (answerNumber o) n % 16 ≡ answerNumber o
+word-answer success n = omega arith
+word-answer mismatch n = omega arith
+word-answer refused12 n = omega arith
+word-answer refused13 n = omega arith
+word-answer dry n = omega arith
 
 -- a logged equation is in the memory
 logged-cells : (m : List ℕ) (i : ℕ) (q : Equation) → LoggedAt m i q → equationRow q ≡ equationIn m i
-unfolding equationIn threeIn
-logged-cells m i q h = rw (h .0, h .1, h .2)
+unfolding equationIn equationAt
+logged-cells m i q h = rw (h .0, h .1, h .2, word-answer (q .answer) (q .node))
 
 -- an equation has three cells
 length-equation : (m : List ℕ) (i : ℕ) → length (equationIn m i) ≡ 3
-unfolding equationIn threeIn
+unfolding equationIn equationAt
 length-equation m i = refl
 
 -- the newest equation fits
@@ -47,7 +63,7 @@ table-in m n (q ∷ l) i g r h f o = by (ℕ-discrete i (suc (length l))) (λ j 
     by (no e) rec = let b : n < i * 3 + 3 = o (omega arith) in newest-out n q l (omega arith) ∙ rec i (omega arith) f (λ a. b)
 
 -- a turn stores one equation more
-pub log-more : (m t₀ t w : List ℕ) (i : ℕ) → t ≡ sets t₀ 0 (cellsTo (equationIn m) i) → w ≡ sets t (i * 3) (threeIn m (log-at + i * 3)) → w ≡ sets t₀ 0 (cellsTo (equationIn m) (i + 1))
+pub log-more : (m t₀ t w : List ℕ) (i : ℕ) → t ≡ sets t₀ 0 (cellsTo (equationIn m) i) → w ≡ sets t (i * 3) (equationAt m (log-at + i * 3)) → w ≡ sets t₀ 0 (cellsTo (equationIn m) (i + 1))
 unfolding equationIn
 log-more m t₀ t w i p q = rows-more (equationIn m) 3 (length-equation m) t₀ t w i p q
 

@@ -1,14 +1,13 @@
 -- The table of equations: the expected and the got row, and the answer's number. Definitions alone.
 use mathlib.Core.List.{List, [], _∷_, _++_}
-use Prim.Native.Nat.{ℕ, _+_, _*_, _≤_}
+use Prim.Native.Nat.{ℕ, _+_, _*_, _%_, _≤_}
 use lib.Dec.{leb}
 use lib.ListN.{length}
 use Rattle.theory.specs.Program.{Equation}
-use Rattle.type_table.specs.Memory.{pick}
+use Rattle.type_table.specs.Memory.{cell, pick}
 use Rattle.record.specs.Own.{log-at}
 use Rattle.record.specs.Steps.{State}
 use Rattle.record.specs.Encodes.{answerNumber}
-use Rattle.tables.specs.Rows.{threeIn}
 
 -- ── what the state has ──
 
@@ -27,6 +26,10 @@ logRoom n s = log-at + length (s .log) * 3 ≤ n
 
 -- ── what the code reads ──
 
+-- the row of the equation at the cell f of a memory: the third cell holds the answer's number and the node
+unfoldable pub equationAt : List ℕ → ℕ → List ℕ
+equationAt m f = cell m f ∷ cell m (f + 1) ∷ cell m (f + 2) % 16 ∷ []
+
 -- the row of the equation i of a memory
 unfoldable pub equationIn : List ℕ → ℕ → List ℕ
-equationIn m i = threeIn m (log-at + i * 3)
+equationIn m i = equationAt m (log-at + i * 3)

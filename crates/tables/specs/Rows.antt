@@ -3,10 +3,9 @@ use mathlib.Core.Path.{_≡_}
 use mathlib.Core.List.{List, [], _∷_, _++_}
 use mathlib.Core.Option.{Option, none, some}
 use mathlib.Core.Bool.{Bool, true, false}
-use Prim.Native.Nat.{ℕ, suc, zero, _+_, _-_}
+use Prim.Native.Nat.{ℕ, suc, zero, _-_}
 use lib.ListN.{length, replicate}
 pub use Rattle.table_cells.specs.Zeros.{zeros}
-use Rattle.type_table.specs.Memory.{cell}
 use Rattle.record.specs.declared.Record.{Record}
 use Rattle.record.specs.Steps.{State}
 use Rattle.record.specs.Encodes.{Encodes}
@@ -47,9 +46,3 @@ orZero (some x) = x
 -- whatever state the memory m and the record c hold: where there is room, the lent slice became u, its table
 pub record Fills (m : List ℕ) (c : Record) (room : State → Type 0) (table : State → List ℕ) (u : List ℕ) : Type 0 where
   pub fills : (s : State) → Encodes m c s → room s → u ≡ table s
-
--- ── what the code reads ──
-
--- three cells of the memory at f
-unfoldable pub threeIn : List ℕ → ℕ → List ℕ
-threeIn m f = cell m f ∷ cell m (f + 1) ∷ cell m (f + 2) ∷ []

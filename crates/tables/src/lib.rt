@@ -10,11 +10,11 @@ ghost use Rattle.type_table.specs.Memory.{cell, inputsFrom};
 ghost use Rattle.type_table.specs.Made.{kindNumber as kindCode};
 ghost use Rattle.type_table.specs.Reads.{originMeant, boundMeant, widthMeant};
 ghost use Rattle.record.specs.Own.{extraOf, extraTag, extraValue};
-ghost use Rattle.tables.specs.Rows.{padded, cellsTo, flag, given, orZero, threeIn, Fills};
+ghost use Rattle.tables.specs.Rows.{padded, cellsTo, flag, given, orZero, Fills};
 ghost use Rattle.tables.specs.Nodes.{nodeTable, nodeRoom, optionIn, extraIn, nodeIn};
 ghost use Rattle.tables.specs.Vars.{varTable, varRoom, varIn};
 ghost use Rattle.tables.specs.Types.{inputs-from, typeTable, typeRoom, widthNumber, fields, fieldsOf, fieldsIn, fitted, typeIn, typeFrom, inputsIn};
-ghost use Rattle.tables.specs.Log.{logTable, logRoom};
+ghost use Rattle.tables.specs.Log.{logTable, logRoom, equationAt};
 use record::Record;
 use type_table::Bound;
 use type_table::Counts;
@@ -50,18 +50,6 @@ fn read(m: &[u16], i: usize) -> u16
     ensures { λ r. ⌜ r ≡ cell (now (m .entry)) i ⌝ }
 {
     if i < m.len() { m[i] } else { 0 }
-}
-
-// Three cells as they stand at f.
-fn three_cells(m: &[u16], f: u32, t: &mut [u16], j: u32)
-    ensures { λ _. ⌜ now (t .exit) ≡ sets (now (t .entry)) j (threeIn (now (m .entry)) f) ⌝ }
-{
-    let i = f as usize;
-    let a = read(m, i);
-    let b = read(m, i + 1);
-    let d = read(m, i + 2);
-    table_cells::put_two(t, j, a, b);
-    table_cells::put(t, j as usize + 2, d);
 }
 
 // Zeros from the cell i to the end.
@@ -439,6 +427,18 @@ pub fn fill_types(m: &[u16], c: Record, first: u16, t: &mut [u16])
 
 // ── equations ──
 
+// The row of the equation that stands at f: its third cell holds the node too.
+fn equation_row(m: &[u16], f: u32, t: &mut [u16], j: u32)
+    ensures { λ _. ⌜ now (t .exit) ≡ sets (now (t .entry)) j (equationAt (now (m .entry)) f) ⌝ }
+{
+    let i = f as usize;
+    let a = read(m, i);
+    let b = read(m, i + 1);
+    let d = read(m, i + 2);
+    table_cells::put_two(t, j, a, b);
+    table_cells::put(t, j as usize + 2, d % 16);
+}
+
 // The equations, as many as fit, the oldest first: the expected and the got row, and the answer's number.
 pub fn fill_log(m: &[u16], c: Record, t: &mut [u16])
     ensures { λ _. ⌜ Fills (now (m .entry)) c (logRoom (length (now (m .entry)))) (λ s. padded (length (now (t .entry))) (logTable (length (now (t .entry))) (s .log))) (now (t .exit)) ⌝ }
@@ -451,7 +451,7 @@ pub fn fill_log(m: &[u16], c: Record, t: &mut [u16])
             zero_from(t, j as usize);
             return;
         }
-        three_cells(m, record::LOG_AT as u32 + j, t, j);
+        equation_row(m, record::LOG_AT as u32 + j, t, j);
         i += 1;
     }
     zero_from(t, k as usize * 3);

@@ -1,10 +1,10 @@
 use borrow.Author.Needs.{needs}
-use Rattle.tables.proofs.CellLaws.{three-stores}
-use Rattle.tables.proofs.three_cells.Statement.{statement}
-use Rattle.tables.proofs.three_cells.Tie as tie
+use Rattle.tables.proofs.LogLaws.{row-stored}
+use Rattle.tables.proofs.equation_row.Statement.{statement}
+use Rattle.tables.proofs.equation_row.Tie as tie
 
-pub three-cells-spec : {M : Type 1} → statement M
-three-cells-spec =
+pub equation-row-spec : {M : Type 1} → statement M
+equation-row-spec =
     tie.close (tie.spec
     (λ c κs. search needs)
     (λ c. search needs)
@@ -15,4 +15,4 @@ three-cells-spec =
     (λ c. search needs)
     (λ c κs. search needs)
     (λ c. search needs)
-    (λ c. three-stores _ _ _ _ _ _ _ _ _ (c .before .before .before .before .before .before .before .before .before .before .read .ensures) (c .before .before .before .before .before .before .before .before .before .read2 .ensures) (c .before .before .before .before .before .before .before .before .read3 .ensures) (c .before .before .before .before .before .before .put-two .ensures) (c .before .before .put .ensures)))
+    (λ c. row-stored _ _ _ _ _ _ _ _ _ (c .before .before .before .before .before .before .before .before .before .before .read .ensures) (c .before .before .before .before .before .before .before .before .before .read2 .ensures) (c .before .before .before .before .before .before .before .before .read3 .ensures) (c .before .before .before .before .before .before .put-two .ensures) (c .before .before .put .ensures)))

@@ -36,7 +36,7 @@ fill-log-spec =
     (λ c κs. search needs)
     (λ c. search needs)
     (λ c. search needs)
-    (λ c. (log-more _ _ _ _ _ (c .before .before .before .before .before .before .loop .inv .0) (c .before .before .three-cells .ensures), search needs, (c .before .before .three-cells .kept .1 .1 .0) ∙ (c .before .before .before .before .before .before .loop .inv .2), omega (arith, (c .before .before .before .before .if1 .left), (c .before .before .before .before .before .before .loop .inv .2))))
+    (λ c. (log-more _ _ _ _ _ (c .before .before .before .before .before .before .loop .inv .0) (c .before .before .equation-row .ensures), search needs, (c .before .before .equation-row .kept .1 .1 .0) ∙ (c .before .before .before .before .before .before .loop .inv .2), omega (arith, (c .before .before .before .before .if1 .left), (c .before .before .before .before .before .before .loop .inv .2))))
     (λ c. search needs)
     (λ c. search needs)
     (λ c κs. search needs)
