@@ -1,11 +1,11 @@
 # Where the functions, types and definitions that the walks name stand, and the imports of a proof.
 import re
 # the crate of each function, and of each declared type
-FN = {'errors_used': 'answers', 'errors_end': 'answers', 'fill_errors': 'errors', 'end_memory': 'answers', 'hand_errors': 'answers', 'check_tables': 'checker', 'check': 'checker', 'report_tables': 'report', 'answer_of': 'report_text', 'report': 'report', 'tell': 'told', 'tell_report': 'told', 'nunthila_check': 'nunthila', 'nunthila_report': 'nunthila'}
-TY = {'ErrorRow': 'errors', 'Answer': 'answers', 'Reported': 'report_text'}
+FN = {'errors_used': 'answers', 'errors_end': 'answers', 'fill_errors': 'errors', 'end_memory': 'answers', 'hand_errors': 'answers', 'check_tables': 'checker', 'check': 'checker', 'report_tables': 'report', 'answer_of': 'report_text', 'report': 'report', 'tell': 'told', 'tell_report': 'told', 'nunthila_check': 'nunthila', 'nunthila_report': 'nunthila', 'quarrel_tables': 'conflict_check', 'checked_answer': 'conflict_check', 'quarrel': 'conflict_check'}
+TY = {'ErrorRow': 'errors', 'Answer': 'answers', 'Reported': 'report_text', 'Quarreled': 'conflict_check', 'Lines': 'conflict_set'}
 # the module of specs/ that has each definition which a contract cites
-SPEC = {'filledTo': 'errors.Rows', 'rowIn': 'errors.Rows', 'HandsErrors': 'answers.Parts', 'errorsUsed': 'answers.Lent', 'errorsEnd': 'answers.Lent', 'memoryEnded': 'answers.Lent', 'lent as lentTables': 'answers.Lent', 'TablesChecked': 'checker.Parts', 'TablesReported': 'report.Parts', 'checkedAnswer': 'report_text.Written', 'lent': 'answers.Lent', 'held': 'answers.Lent', 'answerNumber': 'answers.Lent', 'checkOf': 'checker.Check', 'reportNumber': 'report_text.Written', 'told': 'report.Report', 'told as reported': 'report.Report', 'reportOf': 'report.Report', 'toldNumbers': 'told.Numbers', 'textLength': 'told.Numbers', 'numberTold': 'told.Numbers'}
-LAW = {'answers': 'Laws', 'checker': 'Laws', 'report': 'ReportLaws', 'nunthila': 'ToldLaws'}
+SPEC = {'filledTo': 'errors.Rows', 'rowIn': 'errors.Rows', 'HandsErrors': 'answers.Parts', 'errorsUsed': 'answers.Lent', 'errorsEnd': 'answers.Lent', 'memoryEnded': 'answers.Lent', 'lent as lentTables': 'answers.Lent', 'TablesChecked': 'checker.Parts', 'TablesReported': 'report.Parts', 'TablesQuarreled': 'conflict_check.Parts', 'checkedAnswer of quarrel': 'conflict_check.Quarrel', 'checkedAnswer': 'report_text.Written', 'lent': 'answers.Lent', 'held': 'answers.Lent', 'answerNumber': 'answers.Lent', 'checkOf': 'checker.Check', 'reportNumber': 'report_text.Written', 'told': 'report.Report', 'told as reported': 'report.Report', 'reportOf': 'report.Report', 'toldNumbers': 'told.Numbers', 'textLength': 'told.Numbers', 'numberTold': 'told.Numbers'}
+LAW = {'answers': 'Laws', 'checker': 'Laws', 'report': 'ReportLaws', 'conflict_check': 'QuarrelLaws', 'nunthila': 'ToldLaws'}
 
 def mod(CR, f): return f'Rattle.{CR}.proofs.{f}' if FN[f] == CR else f'Rattle.{FN[f]}.proofs.{f}'
 def key(f): return FN[f].replace('_', '-') + '·' + f.replace('_', '-')
@@ -13,7 +13,7 @@ def ty(CR, t): return f'Rattle.{CR}.proofs.{t}' if TY[t] == CR else f'R
 def den(CR, t): return f'use Rattle.{CR}.specs.declared.{t}.{{{t}}}\n' if TY[t] == CR else f'use Rattle.{TY[t]}.specs.declared.{t}.{{{t}}}\n'
 def spec(CR, *ns):
     out = {}
-    for n in ns: out.setdefault(SPEC[n], []).append(n)
+    for n in ns: out.setdefault(SPEC[n], []).append(n.split(' of ')[0])
     r = ''
     for m, v in out.items():
         c, x = m.split('.')

@@ -43,8 +43,8 @@ emptied-with l u z =
     rw (← z .1, ← z .2, ← ap (λ (x : Lent). x .rows) e, ← ap (λ (x : Lent). x .cells) e, ← ap (λ (x : Lent). x .nodes) e, ← ap (λ (x : Lent). x .vars) e, ← ap (λ (x : Lent). x .types) e, ← ap (λ (x : Lent). x .log) e) refl
 
 -- 10 to 13
-pub handed-declined : (w : Walked) (k : ℕ) (p : NodeId) (l u : Lent) → w ≡ walked.Declined k p → Emptied l u → HandedBack w l (answer.Declined k p) u
-handed-declined w k p l u e z = rw e (record { by = (refl, emptied-with l u z) })
+pub handed-declined : (w : Walked) (k : ℕ) (c : Record) (p : NodeId) (l u : Lent) → w ≡ walked.Declined k c p → Emptied l u → HandedBack w l (answer.Declined k p) u
+handed-declined w k c p l u e z = rw e (record { by = (refl, emptied-with l u z) })
 
 -- 3 to 6
 pub handed-refused : (w : Walked) (x : Fault) (k : ℕ) (l u : Lent) → w ≡ walked.Refused x k → Emptied l u → HandedBack w l (answer.Refused x k) u

@@ -34,7 +34,7 @@ abbrev pub HandedAs : Walked → Lent → Answer → Lent → Type 0
 HandedAs (walked.Typed n c) l r u =
     (r ≡ answer.Checked (counted n c)) × (u .rows ≡ l .rows) × (u .cells ≡ l .cells)
     × Filled (l .memory) c n (l .nodes) (l .vars) (l .types) (l .log) (u .nodes) (u .vars) (u .types) (u .log)
-HandedAs (walked.Declined k p) l r u = (r ≡ answer.Declined k p) × (u ≡ emptied l)
+HandedAs (walked.Declined k c p) l r u = (r ≡ answer.Declined k p) × (u ≡ emptied l)
 HandedAs (walked.Refused x k) l r u = (r ≡ answer.Refused x k) × (u ≡ emptied l)
 HandedAs walked.Unread l r u = Unit {0}
 

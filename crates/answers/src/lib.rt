@@ -45,8 +45,8 @@ pub enum Answer {
 pub enum Walked {
     // The memory holds the state in which the rules end.
     Typed(Counts, Record),
-    // The rules refuse.
-    Declined(u16, NodeId),
+    // The rules refuse; the memory holds the state in which they do.
+    Declined(u16, Record, NodeId),
     // The reader refuses.
     Refused(Fault, usize),
     // Not met: 1 and 2 are judged before.
@@ -185,7 +185,7 @@ pub fn hand_back(
             let t = count(n, c);
             Answer::Checked(t)
         }
-        Walked::Declined(k, p) => {
+        Walked::Declined(k, c, p) => {
             clear(rows, cells, nodes, vars, types, log);
             Answer::Declined(k, p)
         }

@@ -32,7 +32,7 @@ use Rattle.well_formed.specs.Good.{WellFormed}
 use Rattle.well_formed.specs.Claims.{when-1, when-2, well-formed-on-0}
 use Rattle.bounds.specs.Claims.{typed-in-memory, never-full, equations-bound, made-count, made-inputs}
 use Rattle.errors.specs.declared.ErrorRow.{ErrorRow}
-use Rattle.errors.specs.Rows.{rowIn, filledTo}
+use Rattle.errors.specs.Rows.{rowIn, filledTo, zeroRow}
 use Rattle.errors.specs.Filling.{filled-state, filled-none}
 use Rattle.tables.specs.Rows.{padded, zeros, cellsOf}
 use Rattle.tables.specs.Types.{shapeInputs, inputsOf}
@@ -45,7 +45,8 @@ use Rattle.checker.specs.Check.{typed, readingOf, checkOf}
 use Rattle.checker.specs.Answers.{read-well-formed}
 use Rattle.answers.specs.Lengths.{Long, not-short}
 use Rattle.answers.specs.Parts.{counted, Filled, HandedAs, HandedBack, HandsErrors}
-use Rattle.checker.specs.Parts.{Declining, ReadAs, WalkRead, WalkedAs, WalkedIn, FileAs, CellsWalked, FileWalked, TablesChecked}
+use Rattle.checker.specs.Parts.{ReadAs, WalkRead, WalkedAs, WalkedIn, FileAs, CellsWalked, FileWalked, TablesChecked, recordOf, EndedAs, WalkChecked}
+use Rattle.checker.specs.declared.Ended.{Ended as Ended·C}
 
 -- ── a body that was typed ──
 
@@ -110,8 +111,8 @@ module _ (n : Counts) (rows cells m m′ : List ℕ) (r : Ruled) (b : BodyTyped 
   walk-done c e = record { by = λ w large. (refl, typed-in-memory n rows cells w m m′ (ruled.Done c) large (rw e at b)) }
 
   -- a body that is refused
-  pub walk-refused : (c : Record) (k : ℕ) (p : NodeId) → r ≡ ruled.Refused k c p → WalkRead n rows cells m (walked.Declined k p) m′
-  walk-refused c k p e = record { by = λ w large. let t = typed-in-memory n rows cells w m m′ (ruled.Refused k c p) large (rw e at b) in (t .0, t .1) }
+  pub walk-refused : (c : Record) (k : ℕ) (p : NodeId) → r ≡ ruled.Refused k c p → WalkRead n rows cells m (walked.Declined k c p) m′
+  walk-refused c k p e = record { by = λ w large. typed-in-memory n rows cells w m m′ (ruled.Refused k c p) large (rw e at b) }
 
 -- of tables that are long enough the reader takes the lengths alone
 reading-lengths : (s rows cells rows′ cells′ : List ℕ) → length s ≤ most-bytes → rows-length ≤ length rows → cells-length ≤ length cells → length rows′ ≡ length rows → length cells′ ≡ length cells
@@ -140,7 +141,7 @@ module _ (s rows cells m : List ℕ) (a : Reading) (rows′ cells′ : List ℕ)
   -- a body that was read, by what typing gave
   walk-by : (n : Counts) → body.held (reading.Body n) rows′ cells′ ≡ readingOf s → (w : Walked) (m′ : List ℕ) → ReadAs n rows′ cells′ w m′ → WalkedAs s w rows′ cells′ m′
   walk-by n g (walked.Typed k c) m′ t = (ap (λ (i : Counts). body.held (reading.Body i) rows′ cells′) (t .0) ∙ g, subst (λ (i : Counts). TypedBy m′ (ruled.Done c) i rows′ cells′) (sym (t .0)) (t .1))
-  walk-by n g (walked.Declined k p) m′ t = (n, g, t)
+  walk-by n g (walked.Declined k c p) m′ t = (n, g, t)
   walk-by n g (walked.Refused x k) m′ t = absurd t
   walk-by n g walked.Unread m′ t = absurd t
 
@@ -218,8 +219,8 @@ cells-by s rows cells z a b m n q f y (walked.Typed i d) g = (
   (ap (λ (o : Read). o .rows) (g .0), whole-padded cells z b n q f y ∙ ap (λ (o : Read). padded (length cells) (o .cells)) (g .0)),
   subst (λ (o : Read). TypedBy m (ruled.Done d) i (o .rows) (o .cells)) (g .0) (g .1),
 )
-cells-by s rows cells z a b m n q f y (walked.Declined k i) g =
-    (g .0, ap (λ (o : Read). o .answer) (sym (g .1)), subst (λ (o : Read). Declining (g .0) (o .rows) (o .cells) k (i .0)) (g .1) (g .2))
+cells-by s rows cells z a b m n q f y (walked.Declined k d i) g =
+    (g .0, ap (λ (o : Read). o .answer) (sym (g .1)), subst (λ (o : Read). TypedBy m (ruled.Refused k d i) (g .0) (o .rows) (o .cells)) (g .1) (g .2))
 cells-by s rows cells z a b m n q f y (walked.Refused o k) g = g
 cells-by s rows cells z a b m n q f y walked.Unread g = absurd g
 
@@ -237,7 +238,7 @@ rows-by : (s rows z a c m : List ℕ) (k n : ℕ) → n ≤ length rows → z �
     → (w : Walked) → FileAs s w ((a ≡ readingOf s .rows) × (c ≡ padded k (readingOf s .cells))) m
     → FileAs s w ((a ++ drop n z ≡ padded (length rows) (readingOf s .rows)) × (c ≡ padded k (readingOf s .cells))) m
 rows-by s rows z a c m k n p e x (walked.Typed i d) g = (g .0, (whole-padded rows z a n p e x ∙ ap (λ (o : List ℕ). padded (length rows) o) (g .1 .0), g .1 .1), g .2)
-rows-by s rows z a c m k n p e x (walked.Declined i o) g = g
+rows-by s rows z a c m k n p e x (walked.Declined i d o) g = g
 rows-by s rows z a c m k n p e x (walked.Refused o i) g = g
 rows-by s rows z a c m k n p e x walked.Unread g = absurd g
 
@@ -274,7 +275,7 @@ module _ (s : List ℕ) (l : Lent) (h : length s ≤ most-bytes) (q : tooShort l
       (lent (u .rows) (u .cells) (u .nodes) (u .vars) (u .types) (filledTo (l .errors) (rowIn m (d .errors)) (length (l .errors))) (u .log) (zeros m)) v (t .1 ∙ g .1 .0) (t .2 ∙ g .1 .1)
       (ap (λ (o : ℕ). replicate o 0) v) refl (g .2 .1) (t .3) in
       rw (le-ltb most-bytes (length s) h, q, g .0, g .2 .0, t .0, k, p, counted-totals m d (last-state n (readingOf s .rows) (readingOf s .cells)) n (g .2 .1))
-  check-by (walked.Declined z p) g r u k t = rw (le-ltb most-bytes (length s) h, q, g .1, g .2 .0, g .2 .1, t .0, k, cleared-lengths l u rows cells m x y v (t .1))
+  check-by (walked.Declined z d p) g r u k t = rw (le-ltb most-bytes (length s) h, q, g .1, g .2 .0, g .2 .1, t .0, k, cleared-lengths l u rows cells m x y v (t .1))
   check-by (walked.Refused o z) g r u k t = rw (le-ltb most-bytes (length s) h, q, g, t .0, k, cleared-lengths l u rows cells m x y v (t .1))
   check-by walked.Unread g r u k t = absurd g
 
@@ -292,3 +293,24 @@ check-done s n l h q rows cells m x y v w r u g k t = record {
 pub check-law : (s : List ℕ) (e : List ErrorRow) (l : Lent) (r : Answer) (u : Lent) (f : List ErrorRow) (v : List ℕ) → TablesChecked s (length e) l r u → HandsErrors r e (u .memory) f v
     → held r (lent (u .rows) (u .cells) (u .nodes) (u .vars) (u .types) f (u .log) v) ≡ checkOf s (lentWith e l)
 check-law s e l r u f v p h = rw (h .0, h .1) (p .with-errors e refl)
+
+-- ── the record of the walk ──
+
+ended-by : (s : List ℕ) (T : Type 0) (m : List ℕ) (w : Walked) → FileAs s w T m → (l : Lent) (r : Answer) (u : Lent) → HandedAs w l r u → EndedAs s r (recordOf w) m
+ended-by s T m (walked.Typed n d) g l r u t = rw (t .0) (n, g .0, g .2)
+ended-by s T m (walked.Declined k d p) g l r u t = rw (t .0) (g .0, g .1, g .2)
+ended-by s T m (walked.Refused x k) g l r u t = rw (t .0) tt
+ended-by s T m walked.Unread g l r u t = absurd g
+
+-- the state in which the walk ended
+walk-ended : (s : List ℕ) (n : ℕ) (l : Lent) → length s ≤ most-bytes → ((e : List ErrorRow) → length e ≡ n → tooShort (lentWith e l) ≡ false) → (rows cells m : List ℕ) (w : Walked) (r : Answer) (u : Lent) (c : Record)
+    → FileWalked s (l .rows) (l .cells) (l .memory) w rows cells m → u .memory ≡ m → HandedBack w (lent rows cells (l .nodes) (l .vars) (l .types) [] (l .log) m) r u → c ≡ recordOf w → EndedAs s r c (u .memory)
+walk-ended s n l h q rows cells m w r u c g k t e =
+    let long = not-short (lentWith (replicate n zeroRow) l) (q (replicate n zeroRow) (length-replicate {A = ErrorRow} n zeroRow)) in
+    rw (k, e) (ended-by s _ m w (g .by h (long .rows) (long .cells) (omega (arith, long .memory))) (lent rows cells (l .nodes) (l .vars) (l .types) [] (l .log) m) r u (t .by))
+
+-- both
+pub walk-checked : (s : List ℕ) (n : ℕ) (l : Lent) (r : Ended·C) (u : Lent) → length s ≤ most-bytes → ((e : List ErrorRow) → length e ≡ n → tooShort (lentWith e l) ≡ false) → (rows cells m : List ℕ)
+    → length rows ≡ length (l .rows) → length cells ≡ length (l .cells) → length m ≡ length (l .memory) → (w : Walked) → FileWalked s (l .rows) (l .cells) (l .memory) w rows cells m
+    → u .memory ≡ m → HandedBack w (lent rows cells (l .nodes) (l .vars) (l .types) [] (l .log) m) (r .answer) u → r .record ≡ recordOf w → WalkChecked s n l r u
+walk-checked s n l r u h q rows cells m x y v w g k t e = record { tables = check-done s n l h q rows cells m x y v w (r .answer) u g k t; ended = walk-ended s n l h q rows cells m w (r .answer) u (r .record) g k t e }

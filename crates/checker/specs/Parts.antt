@@ -17,6 +17,9 @@ use Rattle.well_formed.specs.Good.{WellFormed}
 use Rattle.tables.specs.Rows.{padded}
 use Rattle.errors.specs.declared.ErrorRow.{ErrorRow}
 use Rattle.answers.specs.declared.Answer.{Answer}
+use Rattle.answers.specs.declared.Answer.the-variants as answer
+use Rattle.record.specs.declared.Record.{Record}
+use Rattle.checker.specs.declared.Ended.{Ended}
 use Rattle.answers.specs.declared.Walked.{Walked}
 use Rattle.answers.specs.declared.Walked.the-variants as walked
 use Rattle.answers.specs.Lent.{Lent, held, lentWith, handedWith}
@@ -29,7 +32,7 @@ Declining n rows cells k p = ((run (type-body n rows cells) (first-state rows ce
 -- by what typing gave: of a body of these counts and tables, in the memory m
 abbrev pub ReadAs : Counts → List ℕ → List ℕ → Walked → List ℕ → Type 0
 ReadAs n rows cells (walked.Typed k c) m = (k ≡ n) × TypedBy m (ruled.Done c) n rows cells
-ReadAs n rows cells (walked.Declined k p) m = Declining n rows cells k (p .0)
+ReadAs n rows cells (walked.Declined k c p) m = TypedBy m (ruled.Refused k c p) n rows cells
 ReadAs n rows cells (walked.Refused x k) m = ⊥
 ReadAs n rows cells walked.Unread m = ⊥
 
@@ -40,7 +43,7 @@ pub record WalkRead (n : Counts) (rows cells m : List ℕ) (w : Walked) (m′ : 
 -- by what reading and typing gave: of the file s, in these tables and the memory m
 abbrev pub WalkedAs : List ℕ → Walked → List ℕ → List ℕ → List ℕ → Type 0
 WalkedAs s (walked.Typed n c) rows cells m = (body.held (reading.Body n) rows cells ≡ readingOf s) × TypedBy m (ruled.Done c) n rows cells
-WalkedAs s (walked.Declined k p) rows cells m = (n : Counts) × (body.held (reading.Body n) rows cells ≡ readingOf s) × Declining n rows cells k (p .0)
+WalkedAs s (walked.Declined k c p) rows cells m = (n : Counts) × (body.held (reading.Body n) rows cells ≡ readingOf s) × TypedBy m (ruled.Refused k c p) n rows cells
 WalkedAs s (walked.Refused x k) rows cells m = readingOf s .answer ≡ reading.Refused x k
 WalkedAs s walked.Unread rows cells m = ⊥
 
@@ -51,7 +54,7 @@ pub record WalkedIn (s rows cells m : List ℕ) (w : Walked) (rows′ cells′ m
 -- by what reading and typing gave: of the file s, in the memory m, the tables of declarations being as said
 abbrev pub FileAs : List ℕ → Walked → Type 0 → List ℕ → Type 0
 FileAs s (walked.Typed n c) T m = (readingOf s .answer ≡ reading.Body n) × T × TypedBy m (ruled.Done c) n (readingOf s .rows) (readingOf s .cells)
-FileAs s (walked.Declined x p) T m = (n : Counts) × (readingOf s .answer ≡ reading.Body n) × Declining n (readingOf s .rows) (readingOf s .cells) x (p .0)
+FileAs s (walked.Declined x c p) T m = (n : Counts) × (readingOf s .answer ≡ reading.Body n) × TypedBy m (ruled.Refused x c p) n (readingOf s .rows) (readingOf s .cells)
 FileAs s (walked.Refused x l) T m = readingOf s .answer ≡ reading.Refused x l
 FileAs s walked.Unread T m = ⊥
 
@@ -68,3 +71,29 @@ pub record FileWalked (s rows cells m : List ℕ) (w : Walked) (rows′ cells′
 -- a file is checked but for its errors, for which n rows are lent: with any such table, handed back from the memory, answer and tables are `checkOf`
 pub record TablesChecked (s : List ℕ) (n : ℕ) (l : Lent) (r : Answer) (u : Lent) : Type 0 where
   pub with-errors : (e : List ErrorRow) → length e ≡ n → held r (handedWith r e u) ≡ checkOf s (lentWith e l)
+
+-- ── with the record of the walk ──
+
+-- the record of a file that has no walk
+abbrev pub noRecord : Record
+noRecord = record { counts = record { types = 0; vars = 0; inputs = 0 }; errors = 0; equations = 0; output = record { 0 = 0 } }
+
+-- the record with which a walk ended
+abbrev pub recordOf : Walked → Record
+recordOf (walked.Typed n c) = c
+recordOf (walked.Declined k c p) = c
+recordOf (walked.Refused x k) = noRecord
+recordOf walked.Unread = noRecord
+
+-- by the answer to the file s: the memory m and the record c hold the state in which the walk ended, on 0 and on 10 to 13
+abbrev pub EndedAs : List ℕ → Answer → Record → List ℕ → Type 0
+EndedAs s (answer.Checked t) c m = (n : Counts) × (readingOf s .answer ≡ reading.Body n) × TypedBy m (ruled.Done c) n (readingOf s .rows) (readingOf s .cells)
+EndedAs s answer.TooLong c m = Unit {0}
+EndedAs s answer.ShortTable c m = Unit {0}
+EndedAs s (answer.Refused x l) c m = Unit {0}
+EndedAs s (answer.Declined k p) c m = (n : Counts) × (readingOf s .answer ≡ reading.Body n) × TypedBy m (ruled.Refused k c p) n (readingOf s .rows) (readingOf s .cells)
+
+-- a file is checked but for its errors, and its walk ended with this record
+pub record WalkChecked (s : List ℕ) (n : ℕ) (l : Lent) (r : Ended) (u : Lent) : Type 0 where
+  pub tables : TablesChecked s n l (r .answer) u
+  pub ended : EndedAs s (r .answer) (r .record) (u .memory)

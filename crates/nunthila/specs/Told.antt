@@ -7,6 +7,8 @@ use Rattle.checker.specs.Check.{checkOf}
 use Rattle.report_text.specs.Written.{checkedAnswer}
 use Rattle.report.specs.Report.{reportOf}
 use Rattle.told.specs.Numbers.{toldNumbers, textLength}
+use Rattle.conflict_check.specs.Quarrel.{quarrelOf}
+use Rattle.conflict_told.specs.Numbers.{linesOf, quarrelNumbers}
 
 -- what is answered, what is then in the tables, and what is told
 pub record Checked : Type 0 where
@@ -36,3 +38,9 @@ unfoldable pub reportTold : List ℕ → Lent → List ℕ → List ℕ → Repo
 reportTold s l o t =
     reporting (reportOf s l o .number) (reportOf s l o .tables) (reportOf s l o .output)
     (sets t 0 (toldNumbers (checkedAnswer (reportOf s l o .answer)) (textLength (reportOf s l o .answer))))
+
+-- `nunthila_quarrel`: the papers' number, tables and output of `quarrel`, and the numbers of its answer
+unfoldable pub quarrelTold : List ℕ → ℕ → Lent → List ℕ → List ℕ → Reporting
+quarrelTold s n l o t =
+    let h = quarrelOf s (linesOf n) l o in
+    reporting (h .number) (h .tables) (h .output) (sets t 0 (quarrelNumbers (h .answer)))

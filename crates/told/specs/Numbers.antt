@@ -36,6 +36,10 @@ totalsOf (answer.Declined k n) = noTotals
 abbrev pub toldNumbers : Answer → ℕ → List ℕ
 toldNumbers a n = answerNumber a ∷ placeNumbers (answerPlace a) ++ totalNumbers (totalsOf a) ++ n ∷ []
 
+-- those of a tool's own answer k, which has no place: Check's counts, and the bytes of the text
+abbrev pub ownNumbers : ℕ → Answer → ℕ → List ℕ
+ownNumbers k a n = k ∷ placeNumbers none ++ totalNumbers (totalsOf a) ++ n ∷ []
+
 -- how many bytes the text of a report has; none where it had no room
 abbrev pub textLength : Reported → ℕ
 textLength (Written a n) = n

@@ -6,7 +6,7 @@ ghost use lib.Seq.{sets};
 ghost use Rattle.body.specs.Body.{faultNumber};
 ghost use Rattle.answers.specs.Lent.{answerNumber};
 ghost use Rattle.report_text.specs.Written.{checkedAnswer, reportNumber};
-ghost use Rattle.told.specs.Numbers.{noTotals, totalNumbers, toldNumbers, textLength, numberTold};
+ghost use Rattle.told.specs.Numbers.{noTotals, totalsOf, totalNumbers, toldNumbers, ownNumbers, textLength, numberTold};
 use answers::Answer;
 use answers::Totals;
 use forms::Fault;
@@ -84,6 +84,19 @@ fn told_numbers(a: Answer, n: usize) -> [usize; TOLD]
     }
 }
 
+// The counts of an answer.
+fn totals_of(a: Answer) -> Totals
+    ensures { λ r. ⌜ r ≡ totalsOf a ⌝ }
+{
+    match a {
+        Answer::Checked(c) => c,
+        Answer::TooLong => no_totals(),
+        Answer::ShortTable => no_totals(),
+        Answer::Refused(f, l) => no_totals(),
+        Answer::Declined(k, p) => no_totals(),
+    }
+}
+
 // Writes the number i. Without room nothing changes.
 fn put(t: &mut [usize], i: usize, x: usize)
     ensures { λ _. ⌜ now (t .exit) ≡ set (now (t .entry)) i x ⌝ }
@@ -111,6 +124,16 @@ pub fn tell(t: &mut [usize], a: Answer, n: usize) -> usize
     let xs = told_numbers(a, n);
     put_all(t, xs);
     xs[0]
+}
+
+// Tells the number k of a tool's own, without a place, and the counts of Check's answer, with a text of n bytes; answers k.
+pub fn tell_own(t: &mut [usize], k: usize, a: Answer, n: usize) -> usize
+    ensures { λ r. ⌜ numberTold r (now (t .exit)) ≡ numberTold k (sets (now (t .entry)) 0 (ownNumbers k a n)) ⌝ }
+{
+    let c = totals_of(a);
+    let xs = numbers(k, 0, 0, c, n);
+    put_all(t, xs);
+    k
 }
 
 // Tells the numbers of a report; answers document 01's number.

@@ -26,7 +26,7 @@ hand-back-spec =
     (λ c. search needs)
     (λ c. search needs)
     (λ c. search needs)
-    (λ c. handed-declined _ _ _ _ _ ((c .before .before .before .before .before .before .before .before .before .before .before .before .before .before .before .before .before .before .before .before .w2 .given .1)) ((c .before .before .before .before .before .before .before .before .before .before .before .before .clear .ensures), refl, refl))
+    (λ c. handed-declined _ _ _ _ _ _ ((c .before .before .before .before .before .before .before .before .before .before .before .before .before .before .before .before .before .before .before .before .w2 .given .1)) ((c .before .before .before .before .before .before .before .before .before .before .before .before .clear .ensures), refl, refl))
     (λ c. search needs)
     (λ c. search needs)
     (λ c. search needs)

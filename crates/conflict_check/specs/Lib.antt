@@ -1,0 +1,4 @@
+pub mod Quarrel
+pub mod Parts
+pub mod Answered
+pub mod Claims
