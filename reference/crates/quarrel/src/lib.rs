@@ -153,8 +153,13 @@ fn kind(variables: &Variables, variable: usize) -> Kind {
 
 /// "drops from number 0 up each one whose removal leaves the rest unsolvable".
 pub fn minimal_conflict(system: &System) -> Vec<usize> {
+    left_by_dropping(system, 0..system.equations.len())
+}
+
+/// Drops in this order each equation whose removal leaves the rest unsolvable.
+pub fn left_by_dropping(system: &System, order: impl Iterator<Item = usize>) -> Vec<usize> {
     let mut left: Vec<usize> = (0..system.equations.len()).collect();
-    for number in 0..system.equations.len() {
+    for number in order {
         let rest = without(&left, number);
         if !system.solvable(&rest) {
             left = rest;
@@ -183,7 +188,9 @@ impl Found {
     fn text(&self, form: Form) -> String {
         let line = |number: &usize| match (form, &self.equations[*number]) {
             (Form::Number, _) => format!("equation={number}\n"),
-            (Form::Where, Equation { place, expected, got, .. }) => format!("equation={number},{place},{expected},{got}\n"),
+            (Form::Where, Equation { place, expected, got, .. }) => {
+                format!("equation={number},{place},{expected},{got}\n")
+            }
         };
         self.conflict.iter().map(line).collect()
     }

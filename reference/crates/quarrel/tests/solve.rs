@@ -191,8 +191,11 @@ fn component(system: &System, edges: &[(usize, usize, i64)], start: usize, depth
 /// Whether one leaf and one depth of the outermost array fit all members.
 fn has_types(system: &System, members: &[usize], depths: &[Option<i64>]) -> bool {
     let at_zero = |term: Term| !matches!(term, Term::Variable(Kind::Any) | Term::Array(_));
-    let grounds: Vec<i64> =
-        members.iter().filter(|member| at_zero(system.terms[**member])).map(|member| depths[*member].unwrap()).collect();
+    let grounds: Vec<i64> = members
+        .iter()
+        .filter(|member| at_zero(system.terms[**member]))
+        .map(|member| depths[*member].unwrap())
+        .collect();
     let lowest = members.iter().map(|member| depths[*member].unwrap()).min().unwrap();
     let depths_fit = grounds.iter().all(|ground| *ground == grounds[0] && *ground <= lowest);
     let fits = |leaf: Leaf| {
