@@ -1,6 +1,7 @@
 //! Request f) of document 02, "Which lines quarrel", to the letter: of the equations up to and including the first that failed or was
 //! refused 12, a minimal conflict.
 pub mod solve;
+pub mod tally;
 
 use rules::types::{DIVERGES, Pool, Type};
 use rules::unify::Variables;

@@ -1,8 +1,8 @@
 //! The tool of request f) on bodies by hand, and on generated ones.
 use crate::cases::body_of;
 use crate::text;
-use quarrel::{Form, Found, give, left_by_dropping, not_minimal};
-use std::collections::BTreeMap;
+use quarrel::tally::Tally;
+use quarrel::{Form, give};
 
 /// A body by hand, and what the tool gives for it.
 struct Case {
@@ -79,29 +79,9 @@ pub fn test(file: &str) -> Result<bool, String> {
     Ok(failed == 0)
 }
 
-/// What came of generated bodies with a failed equation.
-#[derive(Default)]
-struct Tally {
-    bodies: u64,
-    /// By family, then by answer.
-    answers: BTreeMap<&'static str, BTreeMap<u8, u64>>,
-    /// How many minimal conflicts are of a size.
-    sizes: BTreeMap<usize, u64>,
-    /// How often so many equations were worked on, in ranges by their first number.
-    worked_on: BTreeMap<usize, u64>,
-    most_worked_on: usize,
-    /// Of those answered 0: how many end with 12, in how many something was dropped, and how many have a second minimal conflict,
-    /// found by dropping from the last down.
-    ended_with_12: u64,
-    dropped: u64,
-    second: u64,
-    not_minimal: Vec<String>,
-}
-
 /// Generated bodies with a failed equation, until so many are answered 0; whether each conflict is minimal.
 pub fn run(seed: u64, count: u64) -> bool {
-    let mut tally = Tally::default();
-    let mut index = 0;
+    let (mut tally, mut index) = (Tally::default(), 0);
     while tally.answered(0) < count {
         let (family, bytes) = generate::conflict_or_other(seed, index);
         if quarrel::has_failed_equation(&bytes) {
@@ -110,66 +90,7 @@ pub fn run(seed: u64, count: u64) -> bool {
         index += 1;
     }
     print!("seed {seed}, bodies {index}, {}", tally.text());
-    tally.not_minimal.is_empty()
-}
-
-impl Tally {
-    fn answered(&self, answer: u8) -> u64 {
-        self.answers.values().filter_map(|answers| answers.get(&answer)).sum()
-    }
-
-    fn count(&mut self, index: u64, family: &'static str, bytes: &[u8]) {
-        self.bodies += 1;
-        let found = quarrel::find(bytes);
-        let answer = found.as_ref().map_or_else(|refusal| refusal.answer, |_| 0);
-        *self.answers.entry(family).or_default().entry(answer).or_default() += 1;
-        if let Ok(found) = found {
-            self.count_found(index, &found);
-        }
-    }
-
-    fn count_found(&mut self, index: u64, found: &Found) {
-        let worked_on = found.equations.len();
-        *self.sizes.entry(found.conflict.len()).or_default() += 1;
-        *self.worked_on.entry(range_of(worked_on)).or_default() += 1;
-        self.most_worked_on = self.most_worked_on.max(worked_on);
-        let last = found.equations.last().map(|equation| equation.outcome);
-        self.ended_with_12 += u64::from(last == Some(rules::Outcome::Refused12));
-        self.dropped += u64::from(found.conflict.len() < worked_on);
-        self.second += u64::from(left_by_dropping(&found.system, (0..worked_on).rev()) != found.conflict);
-        if let Some(why) = not_minimal(&found.system, &found.conflict) {
-            self.not_minimal.push(format!("body {index}: {why}"));
-        }
-    }
-
-    fn text(&self) -> String {
-        let mut text = format!("with a failed equation {}\n", self.bodies);
-        for (family, answers) in &self.answers {
-            text += &format!("{family:<10} {}\n", joined(answers));
-        }
-        let mut all: BTreeMap<u8, u64> = BTreeMap::new();
-        for (answer, count) in self.answers.values().flatten() {
-            *all.entry(*answer).or_default() += count;
-        }
-        text += &format!("answers: {}\nsizes of the sets: {}\n", joined(&all), joined(&self.sizes));
-        text += &format!("equations worked on, from: {}; at most {}\n", joined(&self.worked_on), self.most_worked_on);
-        text += &format!("last refused 12: {}, something dropped: {}", self.ended_with_12, self.dropped);
-        text += &format!(", another minimal set beside: {}\n", self.second);
-        for why in self.not_minimal.iter().take(5) {
-            text += &format!("{why}\n");
-        }
-        text + &format!("{} sets minimal, {} not\n", self.answered(0), self.not_minimal.len())
-    }
-}
-
-/// The first number of the range that a number of equations counts in.
-fn range_of(number: usize) -> usize {
-    [1, 2, 3, 5, 9, 17, 33, 65, 129, 257, 513].into_iter().rev().find(|first| *first <= number).unwrap_or(0)
-}
-
-/// `KEY: COUNT` for each.
-fn joined<K: std::fmt::Display>(counts: &BTreeMap<K, u64>) -> String {
-    counts.iter().map(|(key, count)| format!("{key}: {count}")).collect::<Vec<_>>().join(", ")
+    tally.all_minimal()
 }
 
 /// A case for a program of the gate: a name and the body's text, then the lines with places, ` / ` between them.
