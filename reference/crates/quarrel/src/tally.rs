@@ -33,6 +33,7 @@ impl Tally {
         self.bodies
     }
 
+    /// Whether no set was found that is not minimal.
     pub fn all_minimal(&self) -> bool {
         self.not_minimal.is_empty()
     }
@@ -79,7 +80,8 @@ impl Tally {
         for why in self.not_minimal.iter().take(5) {
             text += &format!("{why}\n");
         }
-        text + &format!("{} sets minimal, {} not\n", self.answered(0), self.not_minimal.len())
+        let not = self.not_minimal.len() as u64;
+        text + &format!("{} sets minimal, {not} not\n", self.answered(0) - not)
     }
 }
 

@@ -83,6 +83,18 @@ impl Lent {
         }
     }
 
+    /// Makes the cells those of tables of the same lengths.
+    pub fn set(&mut self, other: &Lent) {
+        self.rows.copy_from_slice(&other.rows);
+        self.cells.copy_from_slice(&other.cells);
+        self.nodes.copy_from_slice(&other.nodes);
+        self.vars.copy_from_slice(&other.vars);
+        self.types.copy_from_slice(&other.types);
+        self.errors.copy_from_slice(&other.errors);
+        self.log.copy_from_slice(&other.log);
+        self.memory.copy_from_slice(&other.memory);
+    }
+
     /// Types a body; the answer is told too.
     pub fn check(&mut self, body: &[u8]) -> [usize; TOLD] {
         let mut told = [usize::from(BEFORE); TOLD];

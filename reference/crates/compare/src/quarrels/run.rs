@@ -26,6 +26,7 @@ struct Different {
 pub fn generated(seed: u64, count: u64) -> bool {
     let short = short_tables();
     short.iter().for_each(|fault| println!("{fault}"));
+    let mut library = Library::new();
     let (mut tally, mut beside, mut different) = (Tally::default(), 0, Vec::new());
     let mut index = 0;
     while tally.bodies() < count {
@@ -35,13 +36,13 @@ pub fn generated(seed: u64, count: u64) -> bool {
             true => tally.count(index, family, &bytes),
             false => beside += 1,
         }
-        let faults = of_body(&bytes);
+        let faults = library.faults(&bytes);
         if !faults.is_empty() {
             different.push(Different { index, family, bytes, faults });
         }
         index += 1;
     }
-    print!("{}", shown(seed, &mut different));
+    print!("{}", shown(seed, &mut different, &mut library));
     print!("seed {seed}, bodies {index}, without a failed equation {beside}, {}", tally.text());
     let differences = different.len() + short.len();
     println!("{count} bodies, {differences} differences");
@@ -50,39 +51,67 @@ pub fn generated(seed: u64, count: u64) -> bool {
 
 /// One body; whether nothing differs.
 pub fn file(bytes: &[u8]) -> bool {
-    let faults = of_body(bytes);
+    let faults = Library::new().faults(bytes);
     faults.iter().for_each(|fault| println!("{fault}"));
     println!("1 bodies, {} differences", usize::from(!faults.is_empty()));
     faults.is_empty()
 }
 
-/// What is wrong about a body: both forms, in a long output, in one of the text's length and in one byte less, each with another log;
-/// answer, place, counts and text, the bytes behind it, and the tables beside those of `check`.
-fn of_body(bytes: &[u8]) -> Vec<String> {
-    let logs = LOGS.map(|log| {
+/// Tables with one length of the log: as they are before each call, as `check` leaves them, and those lent to the tool.
+struct Tables {
+    before: Lent,
+    checked: Lent,
+    lent: Lent,
+    log: usize,
+}
+
+impl Tables {
+    fn new(log: usize) -> Tables {
         let before = Lent::new(Lengths { log, ..Lengths::required() });
-        let mut checked = before.clone();
-        let told = checked.check(bytes);
-        (before, checked, told)
-    });
-    let mut all = Vec::new();
-    for form in [Form::Number, Form::Where] {
-        let length = quarrel::give(bytes, form, None).text.len();
-        for (turn, room) in [LONG, length, length.saturating_sub(1)].into_iter().enumerate() {
-            let (before, checked, told) = &logs[turn];
-            let wanted = quarrel::give(bytes, form, Some(room));
-            let where_ = if form == Form::Where { PLACES[turn] } else { 0 };
-            let mut lent = before.clone();
-            let called = lent.quarrel(bytes, where_, room);
-            let mut faults = faults(&wanted, &told[3..TOLD - 1], &called);
-            if lent != *checked {
-                faults.push("check leaves other tables".to_string());
-            }
-            let log = LOGS[turn];
-            all.extend(faults.iter().map(|fault| format!("{form:?}, {room} bytes of output, a log of {log}: {fault}")));
-        }
+        Tables { checked: before.clone(), lent: before.clone(), before, log }
     }
-    all
+
+    /// What is wrong about a call in an output of so many bytes: answer, place, counts and text, the bytes behind it, and the tables
+    /// beside those of `check`.
+    fn faults(&mut self, bytes: &[u8], form: Form, places: usize, room: usize, told: &[usize; TOLD]) -> Vec<String> {
+        let wanted = quarrel::give(bytes, form, Some(room));
+        let where_ = if form == Form::Where { places } else { 0 };
+        self.lent.set(&self.before);
+        let called = self.lent.quarrel(bytes, where_, room);
+        let mut all = faults(&wanted, &told[3..TOLD - 1], &called);
+        if self.lent != self.checked {
+            all.push("check leaves other tables".to_string());
+        }
+        let log = self.log;
+        all.iter().map(|fault| format!("{form:?}, {room} bytes of output, a log of {log}: {fault}")).collect()
+    }
+}
+
+/// The library, with what it is lent.
+struct Library {
+    tables: [Tables; 3],
+}
+
+impl Library {
+    fn new() -> Library {
+        Library { tables: LOGS.map(Tables::new) }
+    }
+
+    /// What is wrong about a body: both forms, in a long output, in one of the text's length and in one byte less, each with another
+    /// log.
+    fn faults(&mut self, bytes: &[u8]) -> Vec<String> {
+        let lengths = [Form::Number, Form::Where].map(|form| (form, quarrel::give(bytes, form, None).text.len()));
+        let mut all = Vec::new();
+        for (turn, tables) in self.tables.iter_mut().enumerate() {
+            tables.checked.set(&tables.before);
+            let told = tables.checked.check(bytes);
+            for (form, length) in lengths {
+                let room = [LONG, length, length.saturating_sub(1)][turn];
+                all.extend(tables.faults(bytes, form, PLACES[turn], room, &told));
+            }
+        }
+        all
+    }
 }
 
 /// What is wrong where a table is one cell too short: 2, behind 1 and before all else, and nothing changed but the output.
@@ -116,7 +145,7 @@ fn short_tables() -> Vec<String> {
 }
 
 /// The smallest bodies that differ, the first of them made smaller still.
-fn shown(seed: u64, different: &mut [Different]) -> String {
+fn shown(seed: u64, different: &mut [Different], library: &mut Library) -> String {
     different.sort_by_key(|one| one.bytes.len());
     let mut text = String::new();
     for Different { index, family, bytes, faults } in different.iter().take(20) {
@@ -125,9 +154,9 @@ fn shown(seed: u64, different: &mut [Different]) -> String {
     let Some(body) = different.first().and_then(|one| String::from_utf8(one.bytes.clone()).ok()) else { return text };
     let start = Instant::now();
     let least = shrink::shrink(&body, SHRINK_TRIES, |text| {
-        start.elapsed().as_secs() < SHRINK_SECONDS && !of_body(text.as_bytes()).is_empty()
+        start.elapsed().as_secs() < SHRINK_SECONDS && !library.faults(text.as_bytes()).is_empty()
     });
     let expected = quarrel::give(least.as_bytes(), Form::Where, None).lines();
-    let why = of_body(least.as_bytes()).join("\n");
+    let why = library.faults(least.as_bytes()).join("\n");
     text + &format!("the smallest made smaller\n-- body\n{least}-- expected\n{expected}-- wrong\n{why}\n--\n")
 }
