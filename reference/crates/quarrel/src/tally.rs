@@ -58,7 +58,7 @@ impl Tally {
         self.ended_with_12 += u64::from(last == Some(Outcome::Refused12));
         self.dropped += u64::from(found.conflict.len() < worked_on);
         self.second += u64::from(left_by_dropping(&found.system, (0..worked_on).rev()) != found.conflict);
-        if let Some(why) = not_minimal(&found.system, &found.conflict) {
+        if let Some(why) = not_minimal(&found.system, &found.conflict).or_else(|| fails_too_late(found)) {
             self.not_minimal.push(format!("body {index}: {why}"));
         }
     }
@@ -83,6 +83,13 @@ impl Tally {
         let not = self.not_minimal.len() as u64;
         text + &format!("{} sets minimal, {not} not\n", self.answered(0) - not)
     }
+}
+
+/// The walk and the solver agree on where it fails: the equations before the failed one have a common solution, so it is in the set.
+fn fails_too_late(found: &Found) -> Option<String> {
+    let failed = found.equations.len() - 1;
+    let agree = found.system.solvable(&(0..failed).collect::<Vec<_>>()) && found.conflict.last() == Some(&failed);
+    (!agree).then(|| "the equations before the failed one have no common solution".to_string())
 }
 
 /// The first number of the range that a number of equations counts in.
