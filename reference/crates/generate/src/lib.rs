@@ -3,6 +3,7 @@
 //! A family steers what its bodies are about; [`describe`] says it in words.
 
 mod builder;
+mod conflicts;
 mod costly;
 mod damage;
 mod draft;
@@ -122,6 +123,19 @@ fn family_at(index: u64) -> Family {
 pub fn body(seed: u64, index: u64) -> (Family, Vec<u8>) {
     let family = family_at(index);
     (family, of_family(family, seed, index))
+}
+
+/// Sets the bodies of [`conflict_or_other`] apart from those of the same seed and index.
+const CONFLICTS: u64 = 0x636f_6e66_6c69_6374;
+
+/// Body `index` of a seed for the tool of request f), and the name of its family: an odd index has a chain of variables with ends that
+/// clash, an even one the body of half that index.
+pub fn conflict_or_other(seed: u64, index: u64) -> (&'static str, Vec<u8>) {
+    if index % 2 == 1 {
+        return ("conflict", Builder::new(Random::new(seed ^ CONFLICTS, index)).conflict_body());
+    }
+    let (family, bytes) = body(seed, index / 2);
+    (family.name(), bytes)
 }
 
 /// Body `index` of a seed, of the family that is asked for.

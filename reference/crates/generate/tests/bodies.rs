@@ -1,6 +1,6 @@
 //! What holds of every body: it can be made again, and it keeps the limits.
 
-use generate::{FAMILIES, Family, body, describe, of_family};
+use generate::{FAMILIES, Family, body, conflict_or_other, describe, of_family};
 
 const COUNT: u64 = 300;
 
@@ -71,25 +71,38 @@ fn every_family_has_its_share() {
     }
 }
 
+fn keep_the_limits(bytes: &[u8]) {
+    let lines = lines(bytes);
+    let nodes = rows(&lines, "node=");
+    assert!(bytes.len() <= 65_536 && bytes.ends_with(b"\n"));
+    assert!((1..=1024).contains(&nodes.len()));
+    assert!(rows(&lines, "type=").len() <= 512);
+    assert!(rows(&lines, "def=").len() <= 256);
+    assert!(rows(&lines, "inst=").len() <= 64);
+    assert!(rows(&lines, "bind=").len() <= 64);
+    assert!(levels(&nodes) <= 64);
+    for node in &nodes {
+        let most = if node[0] == "lambda" { 16 } else { 64 };
+        assert!(node.len().saturating_sub(head(node)) <= most);
+    }
+}
+
 #[test]
 fn well_formed_bodies_keep_the_limits() {
     for family in well_formed() {
-        for index in 0..COUNT {
-            let bytes = of_family(family, 1, index);
-            let lines = lines(&bytes);
-            let nodes = rows(&lines, "node=");
-            assert!(bytes.len() <= 65_536 && bytes.ends_with(b"\n"));
-            assert!((1..=1024).contains(&nodes.len()));
-            assert!(rows(&lines, "type=").len() <= 512);
-            assert!(rows(&lines, "def=").len() <= 256);
-            assert!(rows(&lines, "inst=").len() <= 64);
-            assert!(rows(&lines, "bind=").len() <= 64);
-            assert!(levels(&nodes) <= 64);
-            for node in &nodes {
-                let most = if node[0] == "lambda" { 16 } else { 64 };
-                assert!(node.len().saturating_sub(head(node)) <= most);
-            }
-        }
+        (0..COUNT).for_each(|index| keep_the_limits(&of_family(family, 1, index)));
+    }
+}
+
+/// The bodies for request f): the odd ones are chains, which keep the limits too, the even ones those of half the index.
+#[test]
+fn every_second_body_has_a_chain() {
+    for index in 0..COUNT {
+        let (name, bytes) = conflict_or_other(1, 2 * index + 1);
+        assert_eq!(name, "conflict");
+        keep_the_limits(&bytes);
+        let (family, bytes) = body(1, index);
+        assert_eq!(conflict_or_other(1, 2 * index), (family.name(), bytes));
     }
 }
 

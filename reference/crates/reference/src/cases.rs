@@ -47,19 +47,22 @@ pub fn parse(file: &str) -> Result<Vec<Case>, String> {
         }
         // A blank line may stand between two cases.
         let trim = |t: String| format!("{}\n", t.trim_end_matches('\n'));
-        let (text, bytes) = match body.as_slice() {
-            [one] if *one == "text" => (String::new(), Vec::new()),
-            [one] if one.starts_with("text ") => {
-                (one[5..].to_string(), text::expand(&one[5..]).ok_or_else(|| fault("text"))?)
-            }
-            _ => {
-                let bytes: Vec<u8> = body.iter().flat_map(|l| [l.as_bytes(), b"\n"].concat()).collect();
-                (text::flat(&bytes), bytes)
-            }
-        };
+        let (text, bytes) = body_of(&body).ok_or_else(|| fault("text"))?;
         cases.push(Case { name, why, bytes, text, expected: trim(expected), source: source.map(trim) });
     }
     Ok(cases)
+}
+
+/// The body of a case, from its lines or from one line `text T`: its text on one line, and its bytes; none where T is no text.
+pub fn body_of(lines: &[&str]) -> Option<(String, Vec<u8>)> {
+    match lines {
+        ["text"] => Some((String::new(), Vec::new())),
+        [one] if one.starts_with("text ") => Some((one[5..].to_string(), text::expand(&one[5..])?)),
+        _ => {
+            let bytes: Vec<u8> = lines.iter().flat_map(|l| [l.as_bytes(), b"\n"].concat()).collect();
+            Some((text::flat(&bytes), bytes))
+        }
+    }
 }
 
 /// What the original gives for bytes, as far as it judges them, in document 01's words.

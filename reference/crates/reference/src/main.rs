@@ -1,5 +1,6 @@
 //! The original checker, document 01's rules, and bodies to compare them on.
 mod cases;
+mod conflicts;
 mod features;
 mod many;
 mod sample;
@@ -8,6 +9,7 @@ mod wrong;
 
 use cases::Case;
 use original::{THREAD_STACK, Want};
+use quarrel::Form;
 use rules::tables::{Left, Lent};
 use std::io::{Read, Write};
 use std::process::ExitCode;
@@ -23,7 +25,13 @@ usage: reference report [FILE]        what the original gives for a body, in doc
        reference many SEED COUNT      the first COUNT bodies of SEED through both programs: counts, and what differs
        reference stream WHAT SEED COUNT   the same bodies one behind the other, WHAT being text, original, rules or samples:
                                       as read_run reads them, what the original and the rules give, and as replay reads them
+                                      WHAT being quarrels: generated bodies and what the tool gives for each, as two lines
+       reference quarrel [where] [--room N] [FILE]   the tool of request f: the equations that conflict, with `where` also the node
+                                      and the sides of each; N the bytes of the lent output
+       reference quarrels SEED COUNT  the tool on generated bodies with a failed equation, until COUNT are answered 0: counts, and
+                                      whether each set is minimal
        reference test FILE..          the cases of these files through both programs
+       reference test-quarrels FILE   the cases of this file through the tool of request f
        reference replay DIR           the recorded samples in DIR through the rules, against what is recorded
        reference wrong LIST WORKSPACE DIR   wrong versions of the rules' program on the recorded samples
        reference sample DIR LENT FILE..   writes the recorded samples to DIR, with the cases of these files; those of LENT are
@@ -67,8 +75,11 @@ fn command(args: &[&str]) -> Result<bool, String> {
             Ok(true)
         }
         ["many", seed, count] => Ok(many::run(number(seed)?, number(count)?)),
+        ["quarrel", args @ ..] => quarrel(args),
+        ["quarrels", seed, count] => Ok(conflicts::run(number(seed)?, number(count)?)),
         ["stream", what, seed, count] => stream(what, number(seed)?, number(count)?),
         ["test", files @ ..] if !files.is_empty() => test(files),
+        ["test-quarrels", file] => conflicts::test(&std::fs::read_to_string(file).map_err(|e| format!("{file}: {e}"))?),
         ["replay", dir] => replay(dir),
         ["wrong", list, workspace, dir] => wrong::run(list, workspace, dir),
         ["sample", dir, lent, files @ ..] => write(dir, &read_cases(&[lent])?, &read_cases(files)?),
@@ -111,21 +122,38 @@ fn walk(bytes: &[u8], want: Want) -> (String, String) {
     (run.outcome.text(), entries.collect())
 }
 
+/// `[where] [--room N] [FILE]`.
+fn quarrel(args: &[&str]) -> Result<bool, String> {
+    let (form, args) = match args {
+        ["where", args @ ..] => (Form::Where, args),
+        args => (Form::Number, args),
+    };
+    let (room, file) = match args {
+        ["--room", room, file @ ..] => (Some(number(room)? as usize), file),
+        file => (None, file),
+    };
+    show(quarrel::give(&bytes(file)?, form, room).lines())
+}
+
 fn stream(what: &str, seed: u64, count: u64) -> Result<bool, String> {
     let mut out = std::io::BufWriter::new(std::io::stdout().lock());
     for index in 0..count {
-        let (family, bytes) = generate::body(seed, index);
-        let head = format!("{}-{index}", family.name());
-        let text = match what {
-            "text" => format!("{head} {}\n", text::flat(&bytes)),
-            "original" => format!("== {head}\n{}", cases::report(&bytes).text()),
-            "rules" => format!("== {head}\n{}", rules::report(&bytes)),
-            "samples" => sample::lines(&head, &text::flat(&bytes), &Left::of(&bytes, &Lent::of(&head))),
-            _ => return Err(USAGE.to_string()),
-        };
+        let text = if what == "quarrels" { conflicts::stream_lines(seed, index) } else { streamed(what, seed, index)? };
         out.write_all(text.as_bytes()).map_err(|e| e.to_string())?;
     }
     Ok(true)
+}
+
+fn streamed(what: &str, seed: u64, index: u64) -> Result<String, String> {
+    let (family, bytes) = generate::body(seed, index);
+    let head = format!("{}-{index}", family.name());
+    Ok(match what {
+        "text" => format!("{head} {}\n", text::flat(&bytes)),
+        "original" => format!("== {head}\n{}", cases::report(&bytes).text()),
+        "rules" => format!("== {head}\n{}", rules::report(&bytes)),
+        "samples" => sample::lines(&head, &text::flat(&bytes), &Left::of(&bytes, &Lent::of(&head))),
+        _ => return Err(USAGE.to_string()),
+    })
 }
 
 fn read_cases(files: &[&str]) -> Result<Vec<Case>, String> {
