@@ -11,7 +11,7 @@ use Rattle.answers.specs.Lent.{answerNumber, answerPlace}
 use Rattle.report_text.specs.declared.Reported.{Reported}
 use Rattle.report_text.specs.declared.Reported.the-variants.{Written, NoRoom}
 use Rattle.report_text.specs.Written.{checkedAnswer, reportNumber}
-use Rattle.told.specs.Numbers.{placeNumbers, totalNumbers, totalsOf, toldNumbers, textLength, NumberTold, numberTold}
+use Rattle.told.specs.Numbers.{placeNumbers, totalNumbers, totalsOf, toldNumbers, ownNumbers, textLength, NumberTold, numberTold}
 
 -- ── numbers one by one ──
 
@@ -33,6 +33,10 @@ told-as a b k f p n c xs e u v w q = rw (e, ← u, ← v, ← w) q
 -- of an answer, by the numbers xs
 pub tell-law : (t v xs : List ℕ) (a : Answer) (n k : ℕ) → xs ≡ toldNumbers a n → v ≡ sets t 0 xs → k ≡ getD xs 0 0 → numberTold k v ≡ numberTold (answerNumber a) (sets t 0 (toldNumbers a n))
 tell-law t v xs a n k p q e = rw (e, q, p) refl
+
+-- of a tool's own answer
+pub tell-own-law : (t v xs : List ℕ) (k : ℕ) (a : Answer) (n : ℕ) (c : Totals) → c ≡ totalsOf a → xs ≡ k ∷ 0 ∷ 0 ∷ totalNumbers c ++ n ∷ [] → v ≡ sets t 0 xs → numberTold k v ≡ numberTold k (sets t 0 (ownNumbers k a n))
+tell-own-law t v xs k a n c e p q = rw (q, p, e) refl
 
 -- of a report with a text
 pub tell-written : (t v : List ℕ) (r : Reported) (a : Answer) (n k : ℕ) → r ≡ Written a n → numberTold k v ≡ numberTold (answerNumber a) (sets t 0 (toldNumbers a n))
