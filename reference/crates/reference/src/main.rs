@@ -25,7 +25,6 @@ usage: reference report [FILE]        what the original gives for a body, in doc
        reference many SEED COUNT      the first COUNT bodies of SEED through both programs: counts, and what differs
        reference stream WHAT SEED COUNT   the same bodies one behind the other, WHAT being text, original, rules or samples:
                                       as read_run reads them, what the original and the rules give, and as replay reads them
-                                      WHAT being quarrels: generated bodies and what the tool gives for each, as two lines
        reference quarrel [where] [--room N] [FILE]   the tool of request f: the equations that conflict, with `where` also the node
                                       and the sides of each; N the bytes of the lent output
        reference quarrels SEED COUNT  the tool on generated bodies with a failed equation, until COUNT are answered 0: counts, and
@@ -36,6 +35,8 @@ usage: reference report [FILE]        what the original gives for a body, in doc
        reference wrong LIST WORKSPACE DIR   wrong versions of the rules' program on the recorded samples
        reference sample DIR LENT FILE..   writes the recorded samples to DIR, with the cases of these files; those of LENT are
                                       about the lengths of the lent tables and the output
+       reference sample-quarrels DIR FILE   writes the bodies of quarrel_run to DIR and what is expected of them, with the cases of
+                                      this file
 ";
 
 fn main() -> ExitCode {
@@ -80,6 +81,7 @@ fn command(args: &[&str]) -> Result<bool, String> {
         ["stream", what, seed, count] => stream(what, number(seed)?, number(count)?),
         ["test", files @ ..] if !files.is_empty() => test(files),
         ["test-quarrels", file] => conflicts::test(&std::fs::read_to_string(file).map_err(|e| format!("{file}: {e}"))?),
+        ["sample-quarrels", dir, file] => write_quarrels(dir, file),
         ["replay", dir] => replay(dir),
         ["wrong", list, workspace, dir] => wrong::run(list, workspace, dir),
         ["sample", dir, lent, files @ ..] => write(dir, &read_cases(&[lent])?, &read_cases(files)?),
@@ -138,7 +140,7 @@ fn quarrel(args: &[&str]) -> Result<bool, String> {
 fn stream(what: &str, seed: u64, count: u64) -> Result<bool, String> {
     let mut out = std::io::BufWriter::new(std::io::stdout().lock());
     for index in 0..count {
-        let text = if what == "quarrels" { conflicts::stream_lines(seed, index) } else { streamed(what, seed, index)? };
+        let text = streamed(what, seed, index)?;
         out.write_all(text.as_bytes()).map_err(|e| e.to_string())?;
     }
     Ok(true)
@@ -178,6 +180,15 @@ fn test(files: &[&str]) -> Result<bool, String> {
     }
     println!("{passed} passed, {failed} failed");
     Ok(failed == 0)
+}
+
+fn write_quarrels(dir: &str, file: &str) -> Result<bool, String> {
+    let files = conflicts::files(&std::fs::read_to_string(file).map_err(|e| format!("{file}: {e}"))?)?;
+    for (name, text) in [("stdin", files.stdin), ("stdout", files.stdout)] {
+        let path = format!("{dir}/{name}");
+        std::fs::write(&path, text).map_err(|e| format!("{path}: {e}"))?;
+    }
+    Ok(true)
 }
 
 fn replay(dir: &str) -> Result<bool, String> {
