@@ -4,12 +4,14 @@ use mathlib.Core.Logic.{_≢_, inr}
 use mathlib.Core.List.{List, [], _∷_, _++_, append-assoc, append-nil}
 use mathlib.Core.Option.{none}
 use mathlib.Core.Bool.{Bool, true, false}
-use Prim.Native.Nat.{ℕ, suc, zero, _+_, _*_, _-_, _≤_}
+use Prim.Native.Nat.{ℕ, suc, zero, _+_, _*_, _-_, _≤_, _<_}
 use native.Mathlib.Omega.{arith}
 use lib.ListN.{length, replicate, length-replicate}
+use native.Mathlib.Decide.{decLt}
+use lib.Dec.{ltb}
 use borrow.Author.Tests.{lt-ltb, ne-eqb}
 use Rattle.theory.specs.Rules.{Pair}
-use Rattle.theory.specs.Basics.{All}
+use Rattle.theory.specs.Basics.{All, clash}
 use Rattle.type_table.specs.declared.Counts.{Counts}
 use Rattle.type_table.specs.Memory.{pick, cell}
 use Rattle.record.specs.Own.{log-at}
@@ -24,6 +26,14 @@ use Rattle.conflict_set.specs.declared.Lines.the-variants as lines
 use Rattle.conflict_set.specs.In.{Whole, Kept, pairIn, nodeIn, cellsFrom, listIn, isFailed, firstBehind, workedIn, plainTo, conflictIn, ScannedBy}
 use Rattle.conflict_set.specs.Text.{lineText, lineIn, setText, told, byEnding, toldOf, WrittenBy, ConflictPut, conflictText, ConflictBy}
 use Rattle.conflict_set.specs.Laws.{cells-last, kept-self, pairs-on, nodes-on}
+
+-- a number found not below another is not
+pub not-below : (i k : ℕ) → ltb i k ≡ false → k ≤ i
+not-below i k e = by (decLt i k)
+  where
+    by : Dec (i < k) → k ≤ i
+    by (yes h) = let z = lt-ltb i k h in clash (cc)
+    by (no h) = omega arith
 
 set-both : (f : ℕ → List ℕ) (l : List ℕ) (i : ℕ) → setText f (l ++ i ∷ []) ≡ setText f l ++ f i
 unfolding setText

@@ -2,7 +2,8 @@
 // bindings and marks of the walk are lost; nothing else in the memory changes, so no second memory is needed.
 ghost use mathlib.Core.Path.{_≡_};
 ghost use mathlib.Core.Option.{none};
-ghost use Prim.Native.Nat.{_+_, _*_};
+ghost use Prim.Native.Nat.{_+_, _-_, _*_, _≤_, _<_};
+ghost use lib.Dec.{ltb};
 ghost use Rattle.output.specs.Output.{Appends};
 ghost use Rattle.type_table.specs.Memory.{cell};
 ghost use Rattle.record.specs.Own.{log-at};
@@ -233,15 +234,25 @@ enum Stop {
     Nowhere,
 }
 
+// Of the equations from lo to n the one that is added with those below i left: they come from the last back.
+fn turn(lo: u16, n: u16, i: u16) -> u16
+    requires { ⌜ (lo < i) × (i ≤ n) ⌝ }
+    ensures { λ r. ⌜ r ≡ i - 1 ⌝ }
+{
+    i - 1
+}
+
 // The equations from n - 1 down to the number lo on top of those solved.
 fn back(m: &mut [u16], c: Counts, lo: u16, n: u16) -> Stop
     ensures { λ r. ⌜ FellBy (now (m .entry)) c lo n (now (m .exit)) r ⌝ }
 {
     let mut i = n;
     while lo < i {
-        i -= 1;
-        if add(m, c, i) {} else {
-            return Stop::At(i);
+        let j = turn(lo, n, i);
+        if add(m, c, j) {
+            i -= 1;
+        } else {
+            return Stop::At(j);
         }
     }
     Stop::Nowhere
@@ -300,13 +311,20 @@ fn put_place(out: &mut [u8], d: usize, i: u16, n: u16, x: TypeId, y: TypeId) -> 
     output::put_line(out, e, b",", y.0 as usize)
 }
 
+// Whether the place i of a set of k numbers has one of them.
+fn has_number(i: u16, k: u16) -> bool
+    ensures { λ r. ⌜ r ≡ ltb i k ⌝ }
+{
+    i < k
+}
+
 // A line for each of the first k numbers of a set.
 fn put_set(out: &mut [u8], m: &[u16], c: Counts, l: Lines, set: &[u16], k: u16) -> usize
     ensures { λ r. ⌜ Appends (setText (lineIn (now (m .entry)) c l) (listIn (now (set .entry)) k)) 0 (now (out .entry)) r (now (out .exit)) ⌝ }
 {
     let mut d = 0;
     let mut i = 0;
-    while i < k {
+    while has_number(i, k) {
         let q = memory_cells::read(set, i as usize);
         d = put_equation(out, d, m, c, l, q);
         i += 1;

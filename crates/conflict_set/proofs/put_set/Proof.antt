@@ -1,11 +1,13 @@
 use borrow.Author.Needs.{needs}
 use Prim.Native.Nat.{_-_, _≤_}
-use mathlib.Core.Path.{_≡_, refl, _∙_}
+use mathlib.Core.Path.{_≡_, refl, sym, _∙_}
+use native.Mathlib.Omega.{arith}
 use lib.ListN.{length}
+use Rattle.theory.specs.Basics.{ltb-true}
 use Rattle.output.specs.Output.{Appends}
 use Rattle.conflict_set.specs.Text.{lineIn, setText}
 use Rattle.conflict_set.specs.In.{listIn}
-use Rattle.conflict_set.specs.TextLaws.{set-none, set-next, set-all}
+use Rattle.conflict_set.specs.TextLaws.{not-below, set-none, set-next, set-all}
 use Rattle.conflict_set.proofs.put_set.Statement.{statement}
 use Rattle.conflict_set.proofs.put_set.Tie as tie
 
@@ -21,11 +23,12 @@ put-set-spec =
     Inv-loop
     μ-loop
     (λ c. (set-none _ _ _ _, search needs, refl))
+    (λ c κs. search needs)
     (λ c. search needs)
     (λ c κs. search needs)
     (λ c κs. search needs)
-    (λ c. search needs)
-    (λ c. search needs)
-    (λ c. (set-next _ _ _ _ _ _ _ _ _ _ ((c .before .before .before .before .read .ensures)) ((c .before .before .before .before .before .before .loop .inv .0)) ((c .before .before .put-equation .ensures)), search needs, (c .before .before .put-equation .kept .0) ∙ (c .before .before .before .before .before .before .loop .inv .2)))
-    (λ c. (c .before .loop .inv .2))
-    (λ c. set-all _ _ _ _ _ _ _ _ ((c .before .loop .inv .1)) ((c .loop-test .left)) ((c .before .loop .inv .0))))
+    (λ c. let h = ltb-true ((c .before .before .before .before .before .before .before .loop .i)) ((c .before .before .before .before .before .before .before .before .before .before .before .args .k)) (sym ((c .before .before .before .before .before .before .has-number .ensures)) ∙ ((c .before .before .before .before .before .if1 .taken))) in omega (arith, h, (c .before .before .before .before .before .before .before .before .before .before .before .fits .k)))
+    (λ c. let h = ltb-true ((c .before .before .before .before .before .before .before .loop .i)) ((c .before .before .before .before .before .before .before .before .before .before .before .args .k)) (sym ((c .before .before .before .before .before .before .has-number .ensures)) ∙ ((c .before .before .before .before .before .if1 .taken))) in omega (arith, h))
+    (λ c. let h = ltb-true ((c .before .before .before .before .before .before .before .loop .i)) ((c .before .before .before .before .before .before .before .before .before .before .before .args .k)) (sym ((c .before .before .before .before .before .before .has-number .ensures)) ∙ ((c .before .before .before .before .before .if1 .taken))) in (set-next _ _ _ _ _ _ _ _ _ _ ((c .before .before .before .before .read .ensures)) ((c .before .before .before .before .before .before .before .loop .inv .0)) ((c .before .before .put-equation .ensures)), omega (arith, h), ((c .before .before .put-equation .kept .0)) ∙ ((c .before .before .before .before .before .before .before .loop .inv .2))))
+    (λ c. (c .before .before .loop .inv .2))
+    (λ c. set-all _ _ _ _ _ _ _ _ ((c .before .before .loop .inv .1)) (not-below _ _ (sym ((c .before .has-number .ensures)) ∙ ((c .if1 .left)))) ((c .before .before .loop .inv .0))))
