@@ -1,7 +1,7 @@
-/* The stack that nunthila_check and nunthila_quarrel take. They run on a stack of its own that is filled with a pattern: on bodies of up to 64
-   levels of each two forms of nodes in turn, on the same with an equation at the bottom that searches a lambda for a variable, that goes four
-   functions deep and searches there, or that fails, on bodies of 1,024 nodes that are a chain of equations of which the last fails, and on the
-   bodies that the command line names. The last two lines have the deepest of each function; the exit status is 1 if one is more than 128 KiB. */
+/* The stack that nunthila_check and nunthila_quarrel take. Each runs on a stack of its own that is filled with a pattern: on bodies of up to
+   64 levels of each two forms of nodes in turn; on the same with an equation at the bottom that searches a lambda for a variable, that goes
+   four functions deep and searches there, or that fails; on chains and rings of lets; and on the bodies that the command line names. The
+   last two lines have the deepest of each function; the exit status is 1 if one is more than 128 KiB. */
 #define _XOPEN_SOURCE 700
 #include "nunthila.h"
 #include <stdio.h>
@@ -138,8 +138,8 @@ static void failure(const struct form *odd, const struct form *even)
     pile(odd, even, 61, 6, "0,3,");
 }
 
-/* Lets a, b, .., z and their assignments, 64 statements in a block. A link assigns a let to the let before it, or a list of that let where the
-   link's number is divisible by `lists`. The first assigns a Boolean to a, the last 1 to z; or, if `ring`, the last assigns a to z. */
+/* Lets a, b, .., z and assignments, 64 statements in a block: a = true, a = b, b = c, .., z = 1; if `ring`, a = b, b = c, .., z = a. One in
+   `lists` of those between two neighbours is of a list of the second, as a = [b]. */
 static void chain(int lets, int lists, int ring)
 {
     char line[64];

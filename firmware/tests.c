@@ -170,9 +170,9 @@ static int is_quarrel(int which) {
 static const size_t other_than_0[4] = {1, 2, ~(size_t)0, ~(size_t)0 / 2 + 1};
 static size_t places = 1;
 
-static void *const lent[SLICES] = {rows_room + AROUND,   cells_room + AROUND, nodes_room + AROUND,  vars_room + AROUND,
-                                   types_room + AROUND,  errors_room + AROUND, log_room + AROUND,   memory_room + AROUND,
-                                   out_room + AROUND,    told_room + AROUND};
+static void *const lent[SLICES] = {rows_room + AROUND,  cells_room + AROUND,  nodes_room + AROUND, vars_room + AROUND,
+                                   types_room + AROUND, errors_room + AROUND, log_room + AROUND,   memory_room + AROUND,
+                                   out_room + AROUND,   told_room + AROUND};
 
 /* Calls with a body of the length that is set, in slices of the lengths that are set. */
 static size_t call_in(int which, const uint8_t *s, void *const *slice) {
@@ -474,6 +474,8 @@ static int is_plain(size_t t) {
             element = cells[NUNTHILA_FIELD_CELLS * r[NUNTHILA_ROW_FIELD] + NUNTHILA_FIELD_VALUE];
         } else {
             const uint16_t *m = types + NUNTHILA_MADE_CELLS * (t - first_made);
+            if (t - first_made >= told[NUNTHILA_TOLD_MADE]) /* no log has this */
+                return 0;
             if (m[NUNTHILA_MADE_HEAD] != NUNTHILA_HEAD_ARRAY)
                 return m[NUNTHILA_MADE_HEAD] == NUNTHILA_HEAD_INST || m[NUNTHILA_MADE_HEAD] == NUNTHILA_HEAD_VAR;
             element = m[NUNTHILA_MADE_NUMBER];
@@ -504,9 +506,9 @@ static void judge_by_log(int which, size_t answer) {
     if (which != PLACES)
         return;
     good = 1;
-    for (i = 0; i < line_count; i++) {
-        const uint16_t *e = log_cells + NUNTHILA_EQUATION_CELLS * lines[i].number;
-        good = good && lines[i].number < count && lines[i].node < told[NUNTHILA_TOLD_NODES] &&
+    for (i = 0; i < line_count && good; i++) {
+        const uint16_t *e = log_cells + NUNTHILA_EQUATION_CELLS * (lines[i].number < count ? lines[i].number : 0);
+        good = lines[i].number < count && lines[i].node < told[NUNTHILA_TOLD_NODES] &&
                lines[i].expected == e[NUNTHILA_EQUATION_EXPECTED] && lines[i].got == e[NUNTHILA_EQUATION_GOT];
     }
     check(good, "each line has a node, and the sides that the log has");
@@ -941,7 +943,8 @@ static void sizes(void) {
 
 /* ---- the bodies by hand of quarrel ---- */
 
-/* What is expected of a body: by the functions from the first to the last, in an output of so many bytes or, if given is 0, in any. */
+/* What is expected of a body: of the functions from the first to the last, in an output of so many bytes, or in any with room if given is
+   0. */
 struct part {
     int first, last, given;
     size_t bytes, answer, place;
@@ -1031,11 +1034,12 @@ static void read_by_hand(const char *path) {
 }
 
 static void bodies_by_hand(void) {
-    size_t i, k, outputs = 0;
+    size_t i, k;
     int which;
 
     for (i = 0; i < by_hand_count; i++) {
         const struct by_hand *c = &by_hand[i];
+        int tried[FUNCTIONS] = {0};
         set_body(c->body, c->length);
         usual_lengths();
         snprintf(about, sizeof about, "check %s", c->name);
@@ -1044,16 +1048,19 @@ static void bodies_by_hand(void) {
         for (k = 0; k < c->parts; k++) {
             const struct part *p = &c->part[k];
             for (which = p->first; which <= p->last; which++) {
-                if (p->given)
+                if (p->given) {
                     expect_conflict(c->name, which, p->bytes, p->answer, p->place, p->text, p->fit);
-                else
+                } else {
                     expect_in_rooms(c->name, which, p->answer, p->place, p->text, p->fit);
-                outputs++;
+                    tried[which] = 1;
+                }
             }
         }
+        snprintf(about, sizeof about, "body by hand %s", c->name);
+        check(tried[NUMBERS] && tried[PLACES], "both forms are tried");
     }
     strcpy(about, "bodies by hand");
-    check(by_hand_count >= 70 && outputs >= 2 * 70, "70 bodies, each in both forms");
+    check(by_hand_count >= 70, "there are 70");
 }
 
 /* A body of 1,024 nodes: let a, b, .., z; a = true; a = b; b = c; ..; z = 1, 253 lets in all. Without any one of its 254 equations there is
@@ -1643,7 +1650,8 @@ static void damaged_conflicts(unsigned long copies) {
             n = told[NUNTHILA_TOLD_LENGTH] <= length[OUT] ? told[NUNTHILA_TOLD_LENGTH] : 0;
             memcpy(text, out, n);
             length[OUT] = n;
-            check(call(which) == b && told[NUNTHILA_TOLD_LENGTH] == n && memcmp(out, text, n) == 0, "the same in an output of just the text");
+            check(call(which) == b && told[NUNTHILA_TOLD_LENGTH] == n && memcmp(out, text, n) == 0,
+                  "the same in an output of just the text");
             if (n > 0) {
                 length[OUT] = n - 1;
                 check(run(which, (unsigned)(3 * i)) == NUNTHILA_NO_ROOM, "9 with one byte less");
