@@ -30,7 +30,8 @@ extern "C" {
 /* uint16_t: a log that holds all equations of any body. The log may have any length, 0 too; it holds as many as fit whole. */
 #define NUNTHILA_LOG 6144
 
-/* The output may have any length; this is what the program typereport lends. A report can be longer. */
+/* The output may have any length; this is what the program typereport lends. A report can be longer, a text of nunthila_quarrel cannot: it
+   has at most 2,048 lines of at most 29 bytes. */
 #define NUNTHILA_OUT 65536
 
 /* size_t: what is told of a call. In a shorter slice what fits is written; further elements of a longer one stay as they were. */
@@ -46,18 +47,20 @@ enum {
     NUNTHILA_LIMIT = 4,          /* a count over a limit; place: the line */
     NUNTHILA_REFERENCE = 5,      /* a number that breaks a reference rule; place: the line */
     NUNTHILA_LEVELS = 6,         /* too many levels; place: the line */
-    NUNTHILA_NO_ROOM = 9,        /* the output is too short for the text; of nunthila_report alone */
+    NUNTHILA_NO_ROOM = 9,        /* the output is too short for the text; of nunthila_report and nunthila_quarrel */
     NUNTHILA_NO_RULE = 10,       /* a string, or a path that has no type; place: the node */
     NUNTHILA_UNTYPED_LOCAL = 11, /* a local that is not yet typed; place: the node */
-    NUNTHILA_INSIDE_ITSELF = 12, /* a variable that would stand inside its own binding; place: the node */
-    NUNTHILA_NEGATED = 13        /* a negated number that would not be a signed integer; place: the node */
+    NUNTHILA_INSIDE_ITSELF = 12, /* a variable that would stand inside its own binding; place: the node; not of nunthila_quarrel */
+    NUNTHILA_NEGATED = 13,       /* a negated number that would not be a signed integer; place: the node */
+    NUNTHILA_NOTHING = 14        /* no equation failed, or one up to the first that did has a side that is not plain; of nunthila_quarrel
+                                    alone */
 };
 
 /* ---- told ---- */
 
 /* The counts are 0 unless the answer of the check is 0. */
 enum {
-    NUNTHILA_TOLD_ANSWER = 0,     /* the answer of the check, also where 9 is returned */
+    NUNTHILA_TOLD_ANSWER = 0,     /* the answer of the check, also where nunthila_report returns 9; what nunthila_quarrel returns */
     NUNTHILA_TOLD_HAS_PLACE = 1,  /* 1 if the answer has a place: 3 to 6, 10 to 13 */
     NUNTHILA_TOLD_PLACE = 2,      /* the place, else 0 */
     NUNTHILA_TOLD_TYPES = 3,      /* type lines of the file */
@@ -70,7 +73,7 @@ enum {
     NUNTHILA_TOLD_VARS = 10,      /* variables */
     NUNTHILA_TOLD_ERRORS = 11,    /* type errors */
     NUNTHILA_TOLD_EQUATIONS = 12, /* equations raised, those without room in the log too */
-    NUNTHILA_TOLD_LENGTH = 13     /* bytes of the text; 0 where 9 is returned, and of nunthila_check */
+    NUNTHILA_TOLD_LENGTH = 13     /* bytes of the text; 0 where 9 is returned, of nunthila_check, and on any refusal of nunthila_quarrel */
 };
 
 /* ---- types by number ---- */
@@ -224,6 +227,14 @@ enum {
     NUNTHILA_EQUATION_OUTCOME = 2 /* 0 success, 1 mismatch */
 };
 
+/* ---- lines of nunthila_quarrel ---- */
+
+/* Any number other than 0 is taken as NUNTHILA_PLACES. */
+enum {
+    NUNTHILA_NUMBERS = 0, /* equation=N: the equation by its number, from 0 in the order raised */
+    NUNTHILA_PLACES = 1   /* equation=N,NODE,EXPECTED,GOT: with the node whose rule raised it, and the types of its two sides */
+};
+
 /* ---- functions ---- */
 
 /* Types the body s. Returns the answer: 0 to 6, 10 to 13. After 0 the rows in use come first in each table and all behind them is 0;
@@ -253,6 +264,30 @@ size_t nunthila_report(const uint8_t *s, size_t s_len,
                        uint16_t *memory, size_t memory_len,
                        uint8_t *out, size_t out_len,
                        size_t *told, size_t told_len);
+
+/* Types the body s, and writes the minimal conflict among its equations to out. Of the equations up to and including the first that failed
+   or was refused 12, each one is dropped, from number 0 up, whose removal leaves the rest without a common solution. Those that are left
+   have none, and without any one of them the others have one. Each has a line, by rising number; places says of which form.
+
+   Returns 1 to 6, 10, 11 and 13 as nunthila_check does. Else 14 where no equation failed so, or where one of those equations has a side
+   that is not plain: err, diverges as the expected side, a function, a def, a lambda, a reference, or an array of one of these or of
+   diverges. Else 9 where the text has no room. Else 0: the text is out[0] to out[told[NUNTHILA_TOLD_LENGTH] - 1], and the bytes behind it
+   are as they were. After any answer other than 0 out is 0 throughout.
+
+   The tables and the counts of told are those of nunthila_check, whatever is answered. Where nunthila_check answers 12 they are 0, and its
+   place is not told. What is found does not depend on the length of the log. */
+size_t nunthila_quarrel(const uint8_t *s, size_t s_len,
+                        uint16_t *rows, size_t rows_len,
+                        uint16_t *cells, size_t cells_len,
+                        uint16_t *nodes, size_t nodes_len,
+                        uint16_t *vars, size_t vars_len,
+                        uint16_t *types, size_t types_len,
+                        nunthila_error *errors, size_t errors_len,
+                        uint16_t *log, size_t log_len,
+                        uint16_t *memory, size_t memory_len,
+                        uint8_t *out, size_t out_len,
+                        size_t *told, size_t told_len,
+                        size_t places);
 
 #ifdef __cplusplus
 }

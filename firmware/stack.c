@@ -1,7 +1,7 @@
-/* The stack that nunthila_check takes. It runs on a stack of its own that is filled with a pattern: on bodies of up to 64 levels of each two
-   forms of nodes in turn, on the same with an equation at the bottom that searches a lambda for a variable, or that goes four functions deep and
-   searches there, and on the bodies that the command line names. The last line has the deepest of all; the exit status is 1 if that is more
-   than 128 KiB. */
+/* The stack that nunthila_check and nunthila_quarrel take. Each runs on a stack of its own that is filled with a pattern: on bodies of up to
+   64 levels of each two forms of nodes in turn; on the same with an equation at the bottom that searches a lambda for a variable, that goes
+   four functions deep and searches there, or that fails; on chains and rings of lets; and on the bodies that the command line names. The
+   last two lines have the deepest of each function; the exit status is 1 if one is more than 128 KiB. */
 #define _XOPEN_SOURCE 700
 #include "nunthila.h"
 #include <stdio.h>
@@ -18,23 +18,32 @@ static uint16_t equations[NUNTHILA_LOG], memory[NUNTHILA_MEMORY];
 static nunthila_error errors[NUNTHILA_ERRORS];
 static size_t told[NUNTHILA_TOLD];
 static uint8_t body[NUNTHILA_BYTES + 1];
+static uint8_t out[NUNTHILA_OUT];
 static size_t length;
-static size_t answer;
-static int call;
 static ucontext_t here, there;
+
+enum { CHECK, QUARREL, FUNCTIONS, NONE = FUNCTIONS };
+static const char *const function_name[FUNCTIONS] = {"check", "quarrel"};
+static int function;
+static size_t answer;
 
 static void run(void)
 {
-    if (call)
+    if (function == CHECK)
         answer = nunthila_check(body, length, rows, NUNTHILA_ROWS, cells, NUNTHILA_CELLS, nodes, NUNTHILA_NODES, vars, NUNTHILA_VARS,
                                 types, NUNTHILA_TYPES, errors, NUNTHILA_ERRORS, equations, NUNTHILA_LOG, memory, NUNTHILA_MEMORY, told,
                                 NUNTHILA_TOLD);
+    if (function == QUARREL)
+        answer = nunthila_quarrel(body, length, rows, NUNTHILA_ROWS, cells, NUNTHILA_CELLS, nodes, NUNTHILA_NODES, vars, NUNTHILA_VARS,
+                                  types, NUNTHILA_TYPES, errors, NUNTHILA_ERRORS, equations, NUNTHILA_LOG, memory, NUNTHILA_MEMORY, out,
+                                  NUNTHILA_OUT, told, NUNTHILA_TOLD, NUNTHILA_PLACES);
 }
 
-/* The bytes of the stack that a call of run changes. */
-static size_t depth(void)
+/* The bytes of the stack that a call of the function changes. */
+static size_t depth(int of)
 {
     size_t i = 0;
+    function = of;
     memset(stack, PATTERN, STACK);
     getcontext(&there);
     there.uc_stack.ss_sp = stack;
@@ -121,19 +130,72 @@ static void functions(const struct form *odd, const struct form *even)
     pile(odd, even, 61, 10, "0,7,");
 }
 
-static size_t deepest, without;
+/* The same over an assignment that fails, of a let that an assignment before has bound. */
+static void failure(const struct form *odd, const struct form *even)
+{
+    length = 0;
+    put(DECLARED "node=let,-,-\nnode=path,l0,1\nnode=bool\nnode=assign,1,2\nnode=path,l0,1\nnode=int\nnode=assign,4,5\n");
+    pile(odd, even, 61, 6, "0,3,");
+}
+
+/* Lets a, b, .., z and assignments, 64 statements in a block: a = true, a = b, b = c, .., z = 1; if `ring`, a = b, b = c, .., z = a. One in
+   `lists` of those between two neighbours is of a list of the second, as a = [b]. */
+static void chain(int lets, int lists, int ring)
+{
+    char line[64];
+    int statements[1024], count = 0, node = 0, i, block;
+    length = 0;
+    for (i = 0; i < lets; i++) {
+        put("node=let,-,-\n");
+        statements[count++] = node++;
+    }
+    for (i = ring; i <= lets; i++) {
+        snprintf(line, sizeof line, "node=path,l%d,1\n", i == 0 ? 0 : i - 1);
+        put(line);
+        snprintf(line, sizeof line, "node=path,l%d,1\n", i % lets);
+        put(i == 0 ? "node=bool\n" : i == lets && !ring ? "node=int\n" : line);
+        node += 2;
+        if (i > 0 && i < lets && i % lists == 0) {
+            snprintf(line, sizeof line, "node=list,%d\nnode=assign,%d,%d\n", node - 1, node - 2, node);
+            node++;
+        } else {
+            snprintf(line, sizeof line, "node=assign,%d,%d\n", node - 2, node - 1);
+        }
+        put(line);
+        statements[count++] = node++;
+    }
+    for (i = 0; i < count; i++) {
+        snprintf(line, sizeof line, "%s,%d", i % 64 ? "" : i ? "\nnode=block,-" : "node=block,-", statements[i]);
+        put(line);
+    }
+    put("\nnode=block,-");
+    for (block = 0; block < (count + 63) / 64; block++) {
+        snprintf(line, sizeof line, ",%d", node++);
+        put(line);
+    }
+    snprintf(line, sizeof line, "\nfn=0,%d\n", node);
+    put(line);
+}
+
+static size_t deepest[FUNCTIONS], without;
 static int wrong;
 
-static void measure(const char *name, size_t expected)
+enum { ANY = 100 };
+
+static void measure(const char *name, size_t checked, size_t quarreled)
 {
-    size_t d = depth() - without;
-    if (expected < 100 && answer != expected) {
-        printf("%s: answer %zu, expected %zu\n", name, answer, expected);
-        wrong = 1;
-    }
-    if (d > deepest) {
-        deepest = d;
-        printf("%7zu %s\n", d, name);
+    const size_t expected[FUNCTIONS] = {checked, quarreled};
+    int of;
+    for (of = 0; of < FUNCTIONS; of++) {
+        size_t d = depth(of) - without;
+        if (expected[of] != ANY && answer != expected[of]) {
+            printf("%s: %s answers %zu, expected %zu\n", name, function_name[of], answer, expected[of]);
+            wrong = 1;
+        }
+        if (d > deepest[of]) {
+            deepest[of] = d;
+            printf("%7zu %s, %s\n", d, function_name[of], name);
+        }
     }
 }
 
@@ -167,21 +229,32 @@ int main(int count, char **names)
     size_t i, j;
     int k;
     char name[128];
-    call = 0;
-    without = depth();
-    call = 1;
+    without = depth(NONE);
     for (i = 0; i < kinds; i++)
         for (j = 0; j < kinds; j++) {
             snprintf(name, sizeof name, "64 levels of %s and %s", forms[i].name, forms[j].name);
             levels(&forms[i], &forms[j]);
-            measure(name, 0);
+            measure(name, 0, ANY);
             snprintf(name, sizeof name, "a search under %s and %s", forms[i].name, forms[j].name);
             search(&forms[i], &forms[j]);
-            measure(name, 12);
+            measure(name, 12, 14);
             snprintf(name, sizeof name, "functions four deep under %s and %s", forms[i].name, forms[j].name);
             functions(&forms[i], &forms[j]);
-            measure(name, 0);
+            measure(name, 0, 14);
+            snprintf(name, sizeof name, "a failure under %s and %s", forms[i].name, forms[j].name);
+            failure(&forms[i], &forms[j]);
+            measure(name, 0, 0);
         }
+    chain(253, 1000, 0);
+    measure("a chain of 253 lets", 0, 0);
+    chain(202, 1, 0);
+    measure("a chain of 202 lets in lists", 0, 0);
+    chain(253, 1000, 1);
+    measure("a ring of 253 lets", 0, 14);
+    chain(203, 1, 1);
+    measure("a ring of 203 lets in lists", 12, 0);
+    chain(252, 251, 1);
+    measure("a ring of 252 lets, one in a list", 12, 0);
     for (k = 1; k < count; k++) {
         FILE *f = fopen(names[k], "rb");
         if (!f) {
@@ -190,8 +263,8 @@ int main(int count, char **names)
         }
         length = fread(body, 1, sizeof body, f);
         fclose(f);
-        measure(names[k], 100);
+        measure(names[k], ANY, ANY);
     }
-    printf("deepest stack of check: %zu bytes\n", deepest);
-    return wrong || deepest > MOST;
+    printf("deepest stack of check: %zu bytes\ndeepest stack of quarrel: %zu bytes\n", deepest[CHECK], deepest[QUARREL]);
+    return wrong || deepest[CHECK] > MOST || deepest[QUARREL] > MOST;
 }

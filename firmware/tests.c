@@ -1,7 +1,8 @@
 /* Tests of the C interface.
 
-   usage: tests [COPIES]; COPIES is how many damaged copies of bodies are tried, 2,000 by default. The last line is
-   `N passed, M failed`; exits with 1 on a failure. Static slices stand between elements that must stay as they were. */
+   usage: tests FILE [COPIES]; FILE is reference/quarrels.txt, the bodies by hand of nunthila_quarrel, and COPIES is how many damaged
+   copies of bodies are tried, 2,000 by default. The last line is `N passed, M failed`; exits with 1 on a failure. Static slices stand
+   between elements that must stay as they were. */
 #include "nunthila.h"
 
 #include <stdio.h>
@@ -77,7 +78,6 @@ static uint16_t *const vars = vars_room + AROUND;
 static uint16_t *const types = types_room + AROUND;
 static nunthila_error *const errors = errors_room + AROUND;
 static uint16_t *const log_cells = log_room + AROUND;
-static uint16_t *const memory = memory_room + AROUND;
 static uint8_t *const out = out_room + AROUND;
 static size_t *const told = told_room + AROUND;
 
@@ -157,16 +157,36 @@ static void add_text(const char *text) {
     body_length += strlen(text);
 }
 
-enum { CHECK, REPORT };
+/* nunthila_quarrel is tried as two functions: with 0 for places, and with another number. */
+enum { CHECK, REPORT, NUMBERS, PLACES, FUNCTIONS };
+
+static const char *const function_name[FUNCTIONS] = {"check", "report", "quarrel", "quarrel with places"};
+
+static int is_quarrel(int which) {
+    return which == NUMBERS || which == PLACES;
+}
+
+/* Numbers other than 0; the last has no bit in its lower half. */
+static const size_t other_than_0[4] = {1, 2, ~(size_t)0, ~(size_t)0 / 2 + 1};
+static size_t places = 1;
+
+static void *const lent[SLICES] = {rows_room + AROUND,  cells_room + AROUND,  nodes_room + AROUND, vars_room + AROUND,
+                                   types_room + AROUND, errors_room + AROUND, log_room + AROUND,   memory_room + AROUND,
+                                   out_room + AROUND,   told_room + AROUND};
+
+/* Calls with a body of the length that is set, in slices of the lengths that are set. */
+static size_t call_in(int which, const uint8_t *s, void *const *slice) {
+#define LENT(t) slice[t], length[t]
+#define LENT_TABLES LENT(ROWS), LENT(CELLS), LENT(NODES), LENT(VARS), LENT(TYPES), LENT(ERRORS), LENT(LOG), LENT(MEMORY)
+    if (which == CHECK)
+        return nunthila_check(s, body_length, LENT_TABLES, LENT(TOLD));
+    if (which == REPORT)
+        return nunthila_report(s, body_length, LENT_TABLES, LENT(OUT), LENT(TOLD));
+    return nunthila_quarrel(s, body_length, LENT_TABLES, LENT(OUT), LENT(TOLD), which == NUMBERS ? NUNTHILA_NUMBERS : places);
+}
 
 static size_t call(int which) {
-    if (which == CHECK)
-        return nunthila_check(body, body_length, rows, length[ROWS], cells, length[CELLS], nodes, length[NODES], vars, length[VARS],
-                              types, length[TYPES], errors, length[ERRORS], log_cells, length[LOG], memory, length[MEMORY], told,
-                              length[TOLD]);
-    return nunthila_report(body, body_length, rows, length[ROWS], cells, length[CELLS], nodes, length[NODES], vars, length[VARS], types,
-                           length[TYPES], errors, length[ERRORS], log_cells, length[LOG], memory, length[MEMORY], out, length[OUT], told,
-                           length[TOLD]);
+    return call_in(which, body, lent);
 }
 
 /* ---- what holds after every call ---- */
@@ -398,13 +418,144 @@ static void judge_text(size_t answer) {
     check(n == rebuilt_length && memcmp(out, rebuilt, n) == 0, "the text is that of the tables");
 }
 
+/* The lines of a text of quarrel; without places, the numbers alone. */
+struct line {
+    size_t number, node, expected, got;
+};
+static struct line lines[2048];
+static size_t line_count;
+
+/* The next number of a text, or 0. */
+static size_t next_number(const char **at) {
+    char *end;
+    size_t n;
+    while (**at != '\0' && (**at < '0' || **at > '9'))
+        (*at)++;
+    n = strtoul(*at, &end, 10);
+    *at = end;
+    return n;
+}
+
+/* Reads the text of quarrel. Returns whether it is what its numbers give, written anew. */
+static int read_lines(int which) {
+    static char text[OUT_MOST + 1];
+    const char *at = text;
+    size_t n = told[NUNTHILA_TOLD_LENGTH];
+
+    memcpy(text, out, n);
+    text[n] = '\0';
+    line_count = 0;
+    rebuilt_length = 0;
+    while (*at != '\0' && line_count < 2048) {
+        struct line *l = &lines[line_count++];
+        put_number("equation=", l->number = next_number(&at));
+        if (which == PLACES) {
+            put_number(",", l->node = next_number(&at));
+            put_number(",", l->expected = next_number(&at));
+            put_number(",", l->got = next_number(&at));
+        }
+        put("\n");
+        at += *at == '\n';
+    }
+    return n == rebuilt_length && memcmp(out, rebuilt, n) == 0;
+}
+
+/* Whether a type is plain: not err, diverges, a function, a def, a lambda or a reference, and no array of one of these. */
+static int is_plain(size_t t) {
+    const size_t first_made = NUNTHILA_TYPE_FILE + told[NUNTHILA_TOLD_TYPES];
+    for (;;) {
+        size_t element;
+        if (t < NUNTHILA_TYPE_FILE)
+            return t != NUNTHILA_TYPE_ERR && t != NUNTHILA_TYPE_DIVERGES;
+        if (t < first_made) {
+            const uint16_t *r = rows + NUNTHILA_ROW_CELLS * (t - NUNTHILA_TYPE_FILE);
+            if (r[NUNTHILA_ROW_FORM] != 0)
+                return r[NUNTHILA_ROW_FORM] == 2;
+            element = cells[NUNTHILA_FIELD_CELLS * r[NUNTHILA_ROW_FIELD] + NUNTHILA_FIELD_VALUE];
+        } else {
+            const uint16_t *m = types + NUNTHILA_MADE_CELLS * (t - first_made);
+            if (t - first_made >= told[NUNTHILA_TOLD_MADE]) /* no log has this */
+                return 0;
+            if (m[NUNTHILA_MADE_HEAD] != NUNTHILA_HEAD_ARRAY)
+                return m[NUNTHILA_MADE_HEAD] == NUNTHILA_HEAD_INST || m[NUNTHILA_MADE_HEAD] == NUNTHILA_HEAD_VAR;
+            element = m[NUNTHILA_MADE_NUMBER];
+        }
+        if (element >= t) /* no table has this */
+            return 0;
+        t = element;
+    }
+}
+
+/* Judges quarrel by the log, which has to hold every equation; the lines are read if the answer is 0. */
+static void judge_by_log(int which, size_t answer) {
+    const size_t count = told[NUNTHILA_TOLD_EQUATIONS];
+    size_t worked = 0, i;
+    int good = 1;
+
+    while (worked < count && log_cells[NUNTHILA_EQUATION_CELLS * worked + NUNTHILA_EQUATION_OUTCOME] == 0)
+        worked++;
+    for (i = 0; i <= worked && i < count; i++) {
+        const uint16_t *e = log_cells + NUNTHILA_EQUATION_CELLS * i;
+        good = good && is_plain(e[NUNTHILA_EQUATION_EXPECTED]) &&
+               (e[NUNTHILA_EQUATION_GOT] == NUNTHILA_TYPE_DIVERGES || is_plain(e[NUNTHILA_EQUATION_GOT]));
+    }
+    check((answer == NUNTHILA_NOTHING) == (worked == count || !good), "14 where no equation failed or a side is not plain");
+    if (answer != 0 || line_count == 0)
+        return;
+    check(lines[line_count - 1].number == worked, "the last line is that of the first equation that failed");
+    if (which != PLACES)
+        return;
+    good = 1;
+    for (i = 0; i < line_count && good; i++) {
+        const uint16_t *e = log_cells + NUNTHILA_EQUATION_CELLS * (lines[i].number < count ? lines[i].number : 0);
+        good = lines[i].number < count && lines[i].node < told[NUNTHILA_TOLD_NODES] &&
+               lines[i].expected == e[NUNTHILA_EQUATION_EXPECTED] && lines[i].got == e[NUNTHILA_EQUATION_GOT];
+    }
+    check(good, "each line has a node, and the sides that the log has");
+}
+
+/* The answer of the check. Behind 0, 9 and 14 of quarrel it is 0 or 12, told by the counts. */
+static size_t checked_answer(int which) {
+    size_t a = told[NUNTHILA_TOLD_ANSWER];
+    if (!is_quarrel(which) || (a != NUNTHILA_CHECKED && a != NUNTHILA_NO_ROOM && a != NUNTHILA_NOTHING))
+        return a;
+    return told[NUNTHILA_TOLD_NODES] > 0 ? NUNTHILA_CHECKED : NUNTHILA_INSIDE_ITSELF;
+}
+
+static void judge_conflict(int which, size_t answer) {
+    size_t n = told[NUNTHILA_TOLD_LENGTH], i;
+    int rising = 1;
+
+    line_count = 0;
+    if (answer != 0) {
+        check(zero(OUT, 0, length[OUT]), "out: zero throughout on a refusal");
+        check(n == 0, "told: no text on a refusal");
+    } else {
+        check(n > 0 && n <= length[OUT], "there is a text, within the output");
+        if (n > length[OUT])
+            return;
+        check(memcmp(out + n, before[OUT] + slice_from(OUT) + n, length[OUT] - n) == 0,
+              "out: the bytes behind the text are as they were");
+        check(read_lines(which), "the text is lines of equations");
+        for (i = 1; i < line_count; i++)
+            rising = rising && lines[i - 1].number < lines[i].number;
+        check(rising, "the numbers rise");
+    }
+    if (checked_answer(which) == NUNTHILA_CHECKED && told[NUNTHILA_TOLD_EQUATIONS] <= length[LOG] / NUNTHILA_EQUATION_CELLS)
+        judge_by_log(which, answer);
+}
+
 /* Judges a call by what it answered and told; told has its whole length. */
 static void judge(int which, size_t answer) {
-    size_t a = told[NUNTHILA_TOLD_ANSWER], i;
-    int of_line = a >= 3 && a <= 6, of_node = a >= 10 && a <= 13, s;
+    size_t t = told[NUNTHILA_TOLD_ANSWER], a = checked_answer(which), i;
+    int of_line = t >= 3 && t <= 6, of_node = t >= 10 && t <= 13, s;
 
-    check(a <= 2 || of_line || of_node, "the answer of the check is one of 0 to 6, 10 to 13");
-    check(answer == a || (which == REPORT && answer == NUNTHILA_NO_ROOM), "what is returned is the answer of the check, or 9 of report");
+    check(a <= 6 || (a >= 10 && a <= 13), "the answer of the check is one of 0 to 6, 10 to 13");
+    if (is_quarrel(which))
+        check(answer == t && t != NUNTHILA_INSIDE_ITSELF, "what quarrel returns is told, and is not 12");
+    else
+        check(answer == t || (which == REPORT && answer == NUNTHILA_NO_ROOM),
+              "what is returned is the answer of the check, or 9 of report");
     check(told[NUNTHILA_TOLD_HAS_PLACE] == (size_t)(of_line || of_node), "the answer has a place for 3 to 6 and 10 to 13");
     if (of_line)
         check(told[NUNTHILA_TOLD_PLACE] >= 1 && told[NUNTHILA_TOLD_PLACE] <= body_length + 1, "the place is a line");
@@ -431,6 +582,8 @@ static void judge(int which, size_t answer) {
     }
     if (which == REPORT)
         judge_text(answer);
+    else if (is_quarrel(which))
+        judge_conflict(which, answer);
     else
         check(told[NUNTHILA_TOLD_LENGTH] == 0, "told: no text of check");
 }
@@ -441,6 +594,7 @@ static size_t run(int which, unsigned seed) {
     int s;
 
     fill(seed);
+    places = other_than_0[seed % 4];
     memcpy(body_before, body, sizeof body);
     answer = call(which);
     for (s = 0; s < SLICES; s++)
@@ -479,7 +633,12 @@ static int tables_as_kept(void) {
     return good;
 }
 
-/* Both functions on the body that is set, with usual lengths, in rooms of different contents: answer, place and text, or no text where
+static int counts_as_kept(void) {
+    return memcmp(kept[TOLD] + NUNTHILA_TOLD_TYPES * sizeof *told, told + NUNTHILA_TOLD_TYPES,
+                  (NUNTHILA_TOLD_LENGTH - NUNTHILA_TOLD_TYPES) * sizeof *told) == 0;
+}
+
+/* Check and report on the body that is set, with usual lengths, in rooms of different contents: answer, place and text, or no text where
    it is null. */
 static void expect(const char *name, size_t answer, size_t place, const char *text) {
     size_t got;
@@ -603,6 +762,80 @@ static void known_bodies(void) {
     expect("byte 0", 3, 1, "answer=3,1\n");
 }
 
+/* A form of quarrel on the body whose slices of check are kept, in an output of so many bytes: answer, place and text. */
+static void expect_conflict(const char *name, int which, size_t bytes, size_t answer, size_t place, const char *text, size_t fit) {
+    static unsigned seed = 0;
+    size_t got;
+
+    usual_lengths();
+    length[OUT] = bytes;
+    snprintf(about, sizeof about, "%s %s, output of %lu bytes", function_name[which], name, (unsigned long)bytes);
+    got = run(which, seed++);
+    check(got == answer, "answer");
+    check(told[NUNTHILA_TOLD_PLACE] == place, "place");
+    if (answer != NUNTHILA_TOO_LONG)
+        check(tables_as_kept(), "the tables are those of check");
+    check(counts_as_kept(), "the counts are those of check");
+    check(told[NUNTHILA_TOLD_LENGTH] == fit, "length of the text");
+    check(memcmp(out, text, fit) == 0, "text");
+}
+
+/* The same in an output with room, with room for just the text and for one byte less, and with none. */
+static void expect_in_rooms(const char *name, int which, size_t answer, size_t place, const char *text, size_t fit) {
+    size_t bytes[4], i;
+
+    bytes[0] = NUNTHILA_OUT;
+    bytes[1] = fit;
+    bytes[2] = fit > 0 ? fit - 1 : 10;
+    bytes[3] = 0;
+    for (i = 0; i < 4; i++) {
+        if (answer == 0 && bytes[i] < fit)
+            expect_conflict(name, which, bytes[i], NUNTHILA_NO_ROOM, 0, "", 0);
+        else
+            expect_conflict(name, which, bytes[i], answer, place, text, fit);
+    }
+}
+
+/* Both forms on the body that is set. */
+static void expect_quarrel(const char *name, size_t answer, size_t place, const char *numbers, const char *with_places) {
+    usual_lengths();
+    snprintf(about, sizeof about, "check %s", name);
+    run(CHECK, 1);
+    keep();
+    expect_in_rooms(name, NUMBERS, answer, place, numbers, strlen(numbers));
+    expect_in_rooms(name, PLACES, answer, place, with_places, strlen(with_places));
+}
+
+/* Those of the bodies above that have a minimal conflict. */
+static const struct {
+    const char *name, *numbers, *with_places;
+} conflicts[] = {
+    {"methods", "equation=1\n", "equation=1,5,1,14\n"},
+    {"quarrel", "equation=0\n", "equation=0,4,10,3\n"},
+    {"result", "equation=0\n", "equation=0,0,8,1\n"},
+    {"inside itself", "equation=0\n", "equation=0,4,14,15\n"},
+};
+
+static void known_conflicts(void) {
+    size_t i, k, found = 0;
+    for (i = 0; i < KNOWN; i++) {
+        const struct known *b = &known[i];
+        for (k = 0; k < sizeof conflicts / sizeof conflicts[0] && strcmp(conflicts[k].name, b->name) != 0; k++)
+            ;
+        set_text(b->body);
+        if (k < sizeof conflicts / sizeof conflicts[0]) {
+            expect_quarrel(b->name, 0, 0, conflicts[k].numbers, conflicts[k].with_places);
+            found++;
+        } else if (b->answer == NUNTHILA_CHECKED) {
+            expect_quarrel(b->name, NUNTHILA_NOTHING, 0, "", "");
+        } else {
+            expect_quarrel(b->name, b->answer, b->place, "", "");
+        }
+    }
+    strcpy(about, "known conflicts");
+    check(found == sizeof conflicts / sizeof conflicts[0], "each is of a known body");
+}
+
 static void types_of(unsigned n) {
     char line[40];
     unsigned i;
@@ -708,6 +941,188 @@ static void sizes(void) {
     }
 }
 
+/* ---- the bodies by hand of quarrel ---- */
+
+/* What is expected of a body: of the functions from the first to the last, in an output of so many bytes, or in any with room if given is
+   0. */
+struct part {
+    int first, last, given;
+    size_t bytes, answer, place;
+    const char *text;
+    size_t fit;
+};
+
+struct by_hand {
+    const char *name, *body;
+    size_t length, parts; /* of the body in bytes, and how many are expected of it */
+    struct part part[8];
+};
+
+static struct by_hand by_hand[256];
+static size_t by_hand_count;
+
+static void not_read(const char *path, const char *why) {
+    printf("%s: %s\n", path, why);
+    exit(1);
+}
+
+/* The head of a part, behind `--`, up to the line feed. */
+static void read_head(const char *path, const char *at, struct part *p) {
+    char form[16] = "", word[16] = "";
+    unsigned long bytes = 0;
+
+    p->first = p->last = NUMBERS;
+    if (strncmp(at, " where", 6) == 0 || strncmp(at, " either", 7) == 0) {
+        sscanf(at, "%15s", form);
+        p->last = PLACES;
+        p->first = strcmp(form, "where") == 0 ? PLACES : NUMBERS;
+        at += 1 + strlen(form);
+    }
+    p->given = *at != '\n';
+    if (p->given && (sscanf(at, "%15s %lu", word, &bytes) != 2 || strcmp(word, "room") != 0))
+        not_read(path, at);
+    p->bytes = bytes;
+}
+
+/* Reads the file; its first lines say of what form it is. */
+static void read_by_hand(const char *path) {
+    static char file[1 << 17];
+    FILE *f = fopen(path, "rb");
+    size_t n = f ? fread(file, 1, sizeof file - 1, f) : 0;
+    struct by_hand *c = NULL;
+    struct part *p = NULL;
+    char *at, *next;
+
+    if (f)
+        fclose(f);
+    if (n == 0 || n == sizeof file - 1 || file[n - 1] != '\n')
+        not_read(path, "no file of bodies");
+    for (at = file; *at != '\0'; at = next) {
+        next = strchr(at, '\n') + 1;
+        if (strncmp(at, "== ", 3) == 0) {
+            if (by_hand_count == 256)
+                not_read(path, "too many bodies");
+            c = &by_hand[by_hand_count++];
+            c->name = at + 3;
+            c->body = next;
+            next[-1] = '\0';
+            p = NULL;
+        } else if (c == NULL || *at == '\n') {
+            continue;
+        } else if (strncmp(at, "--", 2) == 0) {
+            if (c->parts == 8)
+                not_read(path, c->name);
+            p = &c->part[c->parts++];
+            read_head(path, at + 2, p);
+        } else if (p != NULL && p->text == NULL) {
+            const char *place = strchr(at, ',');
+            if (strncmp(at, "answer=", 7) != 0 || place == NULL)
+                not_read(path, c->name);
+            p->answer = strtoul(at + 7, NULL, 10);
+            p->place = strtoul(place + 1, NULL, 10); /* 0 for `-` */
+            p->text = next;
+        } else if (p != NULL) {
+            p->fit += (size_t)(next - at);
+        } else if (*at == '#' && c->length == 0) {
+            c->body = next;
+        } else if (strncmp(at, "text", 4) != 0) {
+            c->length += (size_t)(next - at);
+        } else if (at[4] != '\n') { /* `text` alone is the empty body */
+            not_read(path, c->name);
+        }
+    }
+}
+
+static void bodies_by_hand(void) {
+    size_t i, k;
+    int which;
+
+    for (i = 0; i < by_hand_count; i++) {
+        const struct by_hand *c = &by_hand[i];
+        int tried[FUNCTIONS] = {0};
+        set_body(c->body, c->length);
+        usual_lengths();
+        snprintf(about, sizeof about, "check %s", c->name);
+        run(CHECK, 1);
+        keep();
+        for (k = 0; k < c->parts; k++) {
+            const struct part *p = &c->part[k];
+            for (which = p->first; which <= p->last; which++) {
+                if (p->given) {
+                    expect_conflict(c->name, which, p->bytes, p->answer, p->place, p->text, p->fit);
+                } else {
+                    expect_in_rooms(c->name, which, p->answer, p->place, p->text, p->fit);
+                    tried[which] = 1;
+                }
+            }
+        }
+        snprintf(about, sizeof about, "body by hand %s", c->name);
+        check(tried[NUMBERS] && tried[PLACES], "both forms are tried");
+    }
+    strcpy(about, "bodies by hand");
+    check(by_hand_count >= 70, "there are 70");
+}
+
+/* A body of 1,024 nodes: let a, b, .., z; a = true; a = b; b = c; ..; z = 1, 253 lets in all. Without any one of its 254 equations there is
+   a solution. */
+static void chain(char *numbers, char *with_places) {
+    enum { LETS = 253, FIRST = NUNTHILA_TYPE_FILE, IN_BLOCK = 64, STATEMENTS = LETS + LETS + 1 };
+    unsigned i, node = 0, blocks = 0;
+    char line[64];
+
+    set_text("");
+    for (i = 0; i < LETS; i++, node++)
+        add_text("node=let,-,-\n");
+    for (i = 0; i <= LETS; i++, node += 3) {
+        sprintf(line, "node=path,l%u,1\n", i == 0 ? 0 : i - 1);
+        add_text(line);
+        sprintf(line, "node=path,l%u,1\n", i);
+        add_text(i == 0 ? "node=bool\n" : i == LETS ? "node=int\n" : line);
+        sprintf(line, "node=assign,%u,%u\n", node, node + 1);
+        add_text(line);
+        numbers += sprintf(numbers, "equation=%u\n", i);
+        with_places += sprintf(with_places, "equation=%u,%u,%u,%u\n", i, node + 2, i == 0 ? FIRST : FIRST + i - 1,
+                               i == 0 ? NUNTHILA_TYPE_BOOL : FIRST + i);
+    }
+    for (i = 0; i < STATEMENTS; i++) {
+        if (i % IN_BLOCK == 0) {
+            add_text(i == 0 ? "node=block,-" : "\nnode=block,-");
+            blocks++;
+        }
+        sprintf(line, ",%u", i < LETS ? i : LETS + 3 * (i - LETS) + 2);
+        add_text(line);
+    }
+    add_text("\nnode=block,-");
+    for (i = 0; i < blocks; i++) {
+        sprintf(line, ",%u", node + i);
+        add_text(line);
+    }
+    sprintf(line, "\nfn=0,%u\n", node + blocks);
+    add_text(line);
+}
+
+static void full_conflict(void) {
+    static char numbers[254 * 32], with_places[254 * 32];
+
+    chain(numbers, with_places);
+    expect("1,024 nodes, 254 equations", 0, 0, NULL);
+    check(told[NUNTHILA_TOLD_NODES] == 1024 && told[NUNTHILA_TOLD_EQUATIONS] == 255, "told: nodes and equations");
+    expect_quarrel("1,024 nodes, 254 equations", 0, 0, numbers, with_places);
+    nodes_of(1024);
+    expect_quarrel("1,024 nodes", NUNTHILA_NOTHING, 0, "", "");
+    nodes_of(1025);
+    expect_quarrel("1,025 nodes", 4, 1025, "", "");
+    full_body();
+    expect_quarrel("65,536 bytes", NUNTHILA_NOTHING, 0, "", "");
+    body[body_length++] = '\n';
+    expect_quarrel("65,537 bytes", 1, 0, "", "");
+    memset(body, '\n', NUNTHILA_BYTES + 1);
+    body_length = NUNTHILA_BYTES;
+    expect_quarrel("65,536 line feeds", 3, 1, "", "");
+    body_length++;
+    expect_quarrel("65,537 line feeds", 1, 0, "", "");
+}
+
 /* ---- cells by hand ---- */
 
 static int same(const uint16_t *got, const uint16_t *wanted, size_t n) {
@@ -777,12 +1192,11 @@ static void short_tables(void) {
         lengths[1] = 1;
         lengths[2] = 0;
         for (i = 0; i < 3; i++) {
-            for (which = CHECK; which <= REPORT; which++) {
+            for (which = CHECK; which < FUNCTIONS; which++) {
                 size_t answer;
                 usual_lengths();
                 length[s] = lengths[i];
-                snprintf(about, sizeof about, "%s of %lu elements, %s", slice_name[s], (unsigned long)lengths[i],
-                         which == CHECK ? "check" : "report");
+                snprintf(about, sizeof about, "%s of %lu elements, %s", slice_name[s], (unsigned long)lengths[i], function_name[which]);
                 set_text(worked);
                 answer = run(which, 4);
                 check(answer == 2, "2 with a good body");
@@ -791,6 +1205,10 @@ static void short_tables(void) {
                 check(run(which, 5) == 2, "2 before 3");
                 set_text("node=str\nfn=0,0\n");
                 check(run(which, 5) == 2, "2 before 10");
+                if (is_quarrel(which)) {
+                    length[OUT] = 0;
+                    check(run(which, 5) == 2, "2 before 9");
+                }
                 memset(body, 'x', NUNTHILA_BYTES + 1);
                 body_length = NUNTHILA_BYTES + 1;
                 check(run(which, 6) == 1, "1 before 2");
@@ -800,8 +1218,8 @@ static void short_tables(void) {
 }
 
 /* Longer tables, each alone and all at once: the same rows, and zeros to the end of each. */
-static void longer_tables(void) {
-    static const char *const bodies[] = {lambda, keys, "x", "node=str\nfn=0,0\n"};
+static void longer_tables(int which) {
+    static const char *const bodies[] = {lambda, keys, quarrel, inside, "x", "node=str\nfn=0,0\n"};
     size_t i;
     int s, t;
 
@@ -810,13 +1228,14 @@ static void longer_tables(void) {
             size_t answer;
             set_text(bodies[i]);
             usual_lengths();
-            snprintf(about, sizeof about, "longer tables, body %lu, %s", (unsigned long)i, s == TABLES ? "all" : slice_name[s]);
-            answer = run(REPORT, 7);
+            snprintf(about, sizeof about, "longer tables, body %lu, %s, %s", (unsigned long)i, s == TABLES ? "all" : slice_name[s],
+                     function_name[which]);
+            answer = run(which, 7);
             keep();
             for (t = 0; t < TABLES; t++)
                 if (t == s || s == TABLES)
                     length[t] += LONGER;
-            check(run(REPORT, 8) == answer, "the same answer");
+            check(run(which, 8) == answer, "the same answer");
             for (t = 0; t < TABLES; t++)
                 check_of(as_kept(t, kept_length[t]), slice_name[t], "the same rows");
             check(as_kept(TOLD, NUNTHILA_TOLD), "the same is told");
@@ -840,6 +1259,23 @@ static void logs(void) {
         check(same(log_cells, equations, whole), "the equations that fit whole");
         check(run(REPORT, 10) == 0, "0 of report");
         check(same(log_cells, equations, whole), "the equations that fit whole, of report");
+        check(run(NUMBERS, 11) == NUNTHILA_NOTHING, "14 of quarrel");
+        check(same(log_cells, equations, whole), "the equations that fit whole, of quarrel");
+    }
+
+    /* a = true, b = 1, a = 1 */
+    set_text("node=let,-,-\nnode=path,l0,1\nnode=bool\nnode=assign,1,2\nnode=let,-,-\nnode=path,l4,1\nnode=int\nnode=assign,5,6\n"
+             "node=path,l0,1\nnode=int\nnode=assign,8,9\nnode=block,-,0,3,4,7,10\nfn=0,11\n");
+    for (n = 0; n <= 15; n++) {
+        usual_lengths();
+        length[LOG] = n;
+        snprintf(about, sizeof about, "log of %lu cells, a conflict", (unsigned long)n);
+        check(run(CHECK, 12) == 0 && told[NUNTHILA_TOLD_EQUATIONS] == 4, "0, and four equations");
+        keep();
+        check(run(PLACES, 13) == 0, "0 of quarrel");
+        check(tables_as_kept(), "the tables are those of check");
+        check(told[NUNTHILA_TOLD_LENGTH] == 38 && memcmp(out, "equation=0,3,14,1\nequation=2,10,14,17\n", 38) == 0,
+              "the same text with any log");
     }
 }
 
@@ -903,12 +1339,12 @@ static void outputs(void) {
 /* ---- lengths of told ---- */
 
 static void told_lengths(void) {
-    static const char *const bodies[] = {lambda, "x", "node=str\nfn=0,0\n"};
+    static const char *const bodies[] = {lambda, quarrel, "x", "node=str\nfn=0,0\n"};
     size_t i, n;
     int which;
 
     for (i = 0; i < sizeof bodies / sizeof bodies[0]; i++) {
-        for (which = CHECK; which <= REPORT; which++) {
+        for (which = CHECK; which < FUNCTIONS; which++) {
             size_t answer;
             set_text(bodies[i]);
             usual_lengths();
@@ -919,12 +1355,14 @@ static void told_lengths(void) {
                 size_t fits = n < NUNTHILA_TOLD ? n : NUNTHILA_TOLD;
                 length[TOLD] = n;
                 snprintf(about, sizeof about, "told of %lu elements, body %lu, %s", (unsigned long)n, (unsigned long)i,
-                         which == CHECK ? "check" : "report");
+                         function_name[which]);
                 check(run(which, 13) == answer, "the same answer");
                 check(as_kept(TOLD, fits), "what fits is told");
                 check(memcmp(told + fits, before[TOLD] + slice_from(TOLD) + fits * sizeof *told, (n - fits) * sizeof *told) == 0,
                       "elements from 14 on are as they were");
                 check(tables_as_kept(), "the same tables");
+                if (which != CHECK)
+                    check(as_kept(OUT, length[OUT]), "the same output");
             }
         }
     }
@@ -932,19 +1370,19 @@ static void told_lengths(void) {
 
 /* ---- slices of exact length, not initialised: for valgrind ---- */
 
-static void exact_slices(void) {
+static void exact_slices(int which) {
     size_t i;
 
-    strcpy(about, "slices of exact length");
     for (i = 0; i < KNOWN; i++) {
         void *slice[SLICES];
         uint8_t *s;
-        size_t answer, n;
+        size_t answer;
         int t, given = 1;
 
+        snprintf(about, sizeof about, "slices of exact length, %s, %s", known[i].name, function_name[which]);
         set_text(known[i].body);
         usual_lengths();
-        run(REPORT, 14);
+        answer = run(which, 14);
         length[OUT] = told[NUNTHILA_TOLD_LENGTH];
         keep();
         s = malloc(body_length ? body_length : 1);
@@ -957,16 +1395,10 @@ static void exact_slices(void) {
             exit(1);
         }
         memcpy(s, body, body_length);
-        answer = nunthila_report(s, body_length, slice[ROWS], length[ROWS], slice[CELLS], length[CELLS], slice[NODES], length[NODES],
-                                 slice[VARS], length[VARS], slice[TYPES], length[TYPES], slice[ERRORS], length[ERRORS], slice[LOG],
-                                 length[LOG], slice[MEMORY], length[MEMORY], slice[OUT], length[OUT], slice[TOLD], length[TOLD]);
-        check(answer == known[i].answer, "answer");
+        check(call_in(which, s, slice) == answer, "the same answer");
         for (t = 0; t < SLICES; t++)
             check_of(memcmp(slice[t], kept[t], length[t] * element[t]) == 0, slice_name[t], "as in a longer room");
-        n = nunthila_check(s, body_length, slice[ROWS], length[ROWS], slice[CELLS], length[CELLS], slice[NODES], length[NODES],
-                           slice[VARS], length[VARS], slice[TYPES], length[TYPES], slice[ERRORS], length[ERRORS], slice[LOG],
-                           length[LOG], slice[MEMORY], length[MEMORY], slice[TOLD], length[TOLD]);
-        check(n == answer, "answer of check in the same slices");
+        check(call_in(CHECK, s, slice) == known[i].answer, "answer of check in the same slices");
         for (t = 0; t < TABLES; t++)
             check_of(memcmp(slice[t], kept[t], length[t] * element[t]) == 0, slice_name[t], "the same from check");
         for (t = 0; t < SLICES; t++)
@@ -995,6 +1427,38 @@ static void used_again(void) {
             check(tables_as_kept(), "the same tables");
             check(as_kept(TOLD, NUNTHILA_TOLD), "the same is told");
             check(as_kept(OUT, told[NUNTHILA_TOLD_LENGTH]), "the same text");
+        }
+    }
+}
+
+/* Quarrel behind each function. */
+static void used_by_quarrel(void) {
+    static const char *const bodies[] = {quarrel, methods, inside, keys, "x", "node=str\nfn=0,0\n"};
+    enum { BODIES = sizeof bodies / sizeof bodies[0] };
+    size_t i, k;
+    int which, earlier;
+
+    for (which = NUMBERS; which <= PLACES; which++) {
+        for (k = 0; k < BODIES; k++) {
+            size_t answer;
+            usual_lengths();
+            set_text(bodies[k]);
+            snprintf(about, sizeof about, "body %lu, %s", (unsigned long)k, function_name[which]);
+            answer = run(which, 15);
+            keep();
+            for (i = 0; i < BODIES; i++) {
+                for (earlier = CHECK; earlier < FUNCTIONS; earlier++) {
+                    snprintf(about, sizeof about, "body %lu, %s behind body %lu, %s", (unsigned long)k, function_name[which],
+                             (unsigned long)i, function_name[earlier]);
+                    set_text(bodies[i]);
+                    call(earlier);
+                    set_text(bodies[k]);
+                    check(call(which) == answer, "the same answer");
+                    check(tables_as_kept(), "the same tables");
+                    check(as_kept(TOLD, NUNTHILA_TOLD), "the same is told");
+                    check(as_kept(OUT, told[NUNTHILA_TOLD_LENGTH]), "the same text");
+                }
+            }
         }
     }
 }
@@ -1122,22 +1586,118 @@ static void damaged(unsigned long copies) {
     }
 }
 
-int main(int argc, char **argv) {
-    unsigned long copies = argc > 1 ? strtoul(argv[1], NULL, 10) : 2000;
+/* Another literal, an empty list or a `break` for a literal, where the body has one behind the place: the body stays well formed, and other
+   equations fail. */
+static void other_literal(size_t at) {
+    static const char *const literals[] = {"node=bool\n", "node=int\n", "node=float\n", "node=list\n", "node=break\n"};
+    for (at = line_end(at); at < body_length; at = line_end(at)) {
+        size_t k, n = line_end(at) - at;
+        for (k = 0; k < 3; k++) {
+            if (n == strlen(literals[k]) && memcmp(body + at, literals[k], n) == 0) {
+                const char *other = literals[below(5)];
+                memmove(body + at + strlen(other), body + at + n, body_length - at - n);
+                memcpy(body + at, other, strlen(other));
+                body_length = body_length - n + strlen(other);
+                return;
+            }
+        }
+    }
+}
 
+/* Damaged copies of the bodies by hand of quarrel. */
+static void damaged_conflicts(unsigned long copies) {
+    static uint8_t text[OUT_MOST];
+    static struct line numbers[2048];
+    unsigned long i, answers[15] = {0}, inside_itself = 0;
+
+    for (i = 0; i < copies; i++) {
+        const struct by_hand *c = &by_hand[i % by_hand_count];
+        size_t a, b, k, n, first_answer = 0, first_count = 0;
+        int which, good;
+
+        set_body(c->body, c->length);
+        for (n = below(3); n > 0 && body_length > 0; n--)
+            other_literal(below(body_length));
+        if (below(3) == 0)
+            damage_once();
+        usual_lengths();
+        if (below(4) == 0)
+            length[LOG] = below(20);
+        snprintf(about, sizeof about, "damaged copy %lu of %s, check", i, c->name);
+        a = run(CHECK, (unsigned)(3 * i));
+        keep();
+        for (which = NUMBERS; which <= PLACES; which++) {
+            snprintf(about, sizeof about, "damaged copy %lu of %s, %s", i, c->name, function_name[which]);
+            length[OUT] = NUNTHILA_OUT;
+            b = run(which, (unsigned)(3 * i + (unsigned)which));
+            if (a == NUNTHILA_CHECKED || a == NUNTHILA_INSIDE_ITSELF)
+                check(b == 0 || b == NUNTHILA_NOTHING, "0 or 14 where check answers 0 or 12");
+            else
+                check(b == a && as_kept(TOLD, NUNTHILA_TOLD), "answer and place of check where it refuses otherwise");
+            check(tables_as_kept(), "the tables are those of check");
+            check(counts_as_kept(), "the counts are those of check");
+            if (which == NUMBERS) {
+                first_answer = b;
+                first_count = line_count;
+                memcpy(numbers, lines, line_count * sizeof *lines);
+            } else {
+                good = b == first_answer && line_count == first_count;
+                for (k = 0; good && k < line_count; k++)
+                    good = lines[k].number == numbers[k].number;
+                check(good, "both forms have the same numbers");
+            }
+            /* The text fits into its own length, and not into one byte less; a refusal needs no room. */
+            n = told[NUNTHILA_TOLD_LENGTH] <= length[OUT] ? told[NUNTHILA_TOLD_LENGTH] : 0;
+            memcpy(text, out, n);
+            length[OUT] = n;
+            check(call(which) == b && told[NUNTHILA_TOLD_LENGTH] == n && memcmp(out, text, n) == 0,
+                  "the same in an output of just the text");
+            if (n > 0) {
+                length[OUT] = n - 1;
+                check(run(which, (unsigned)(3 * i)) == NUNTHILA_NO_ROOM, "9 with one byte less");
+                check(tables_as_kept(), "the tables are those of check, on 9 too");
+            }
+            if (b < 15)
+                answers[b]++;
+            inside_itself += a == NUNTHILA_INSIDE_ITSELF && b == 0;
+        }
+    }
+    if (copies >= 2000) {
+        strcpy(about, "damaged copies, quarrel");
+        check(answers[0] > copies / 4 && answers[NUNTHILA_NOTHING] > copies / 4, "many are answered 0 and 14");
+        check(answers[3] > copies / 50 && answers[5] > copies / 50 && answers[10] > 0 && answers[11] > 0 && answers[13] > 0,
+              "some are answered 3, 5, 10, 11 and 13");
+        check(inside_itself > copies / 100, "some are answered 0 where check answers 12");
+    }
+}
+
+int main(int argc, char **argv) {
+    unsigned long copies = argc > 2 ? strtoul(argv[2], NULL, 10) : 2000;
+    int which;
+
+    if (argc < 2)
+        not_read("usage", "tests FILE [COPIES]");
+    read_by_hand(argv[1]);
     make_pattern();
     known_bodies();
+    known_conflicts();
     limits();
     sizes();
+    bodies_by_hand();
+    full_conflict();
     cells_by_hand();
     short_tables();
-    longer_tables();
     logs();
     outputs();
     told_lengths();
-    exact_slices();
+    for (which = REPORT; which < FUNCTIONS; which++) {
+        longer_tables(which);
+        exact_slices(which);
+    }
     used_again();
+    used_by_quarrel();
     damaged(copies);
+    damaged_conflicts(copies);
     printf("%lu passed, %lu failed\n", passed, failed);
     return failed > 0;
 }

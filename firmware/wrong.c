@@ -1,7 +1,9 @@
 /* A library that is wrong in one way, to see that the tests tell it: the true functions, renamed, and a fault behind them. The variable
-   NUNTHILA_FAULT has the number of the fault; 0 is none. `test` builds the tests with it and wants each fault to be told. */
+   NUNTHILA_FAULT has the number of the fault; 0 is none, those from 101 on are of nunthila_quarrel. `test` builds the tests with it and
+   wants each fault to be told. */
 #include "nunthila.h"
 
+#include <stdio.h>
 #include <stdlib.h>
 #include <string.h>
 
@@ -16,6 +18,7 @@
 
 size_t nunthila_true_check(SLICES, size_t *told, size_t told_len);
 size_t nunthila_true_report(SLICES, uint8_t *out, size_t out_len, size_t *told, size_t told_len);
+size_t nunthila_true_quarrel(SLICES, uint8_t *out, size_t out_len, size_t *told, size_t told_len, size_t places);
 
 static int fault(void) {
     static int number = -1;
@@ -26,12 +29,13 @@ static int fault(void) {
     return number;
 }
 
+static uint16_t spare[NUNTHILA_CELLS + NUNTHILA_MEMORY]; /* as long as any table */
+static nunthila_error spare_errors[NUNTHILA_ERRORS];
+
 /* No table that is used below is short, and told is whole. */
 #define WHOLE (rows_len >= NUNTHILA_ROWS && memory_len >= NUNTHILA_MEMORY && told_len >= NUNTHILA_TOLD)
 
 static size_t either(int report, SLICES, uint8_t *out, size_t out_len, size_t *told, size_t told_len) {
-    static uint16_t spare[NUNTHILA_CELLS + NUNTHILA_MEMORY]; /* as long as any table */
-    static nunthila_error spare_errors[NUNTHILA_ERRORS];
     size_t inner[NUNTHILA_TOLD], answer, i, n;
     uint16_t tail = nodes_len > NUNTHILA_NODES ? nodes[nodes_len - 1] : 0;
     int f = fault();
@@ -233,4 +237,253 @@ size_t nunthila_check(SLICES, size_t *told, size_t told_len) {
 
 size_t nunthila_report(SLICES, uint8_t *out, size_t out_len, size_t *told, size_t told_len) {
     return either(1, GIVEN, out, out_len, told, told_len);
+}
+
+/* ---- nunthila_quarrel ---- */
+
+static uint8_t spare_out[2 * NUNTHILA_OUT];
+
+static size_t put_line(size_t to, int fields, unsigned q, unsigned node, unsigned x, unsigned y) {
+    char *end = (char *)spare_out + to;
+    return to + (size_t)(fields == 1 ? sprintf(end, "equation=%u\n", q) : sprintf(end, "equation=%u,%u,%u,%u\n", q, node, x, y));
+}
+
+/* Writes the text with the fault to spare_out; its bytes. */
+static size_t rewritten(int f, const uint8_t *out, size_t n) {
+    static char text[NUNTHILA_OUT + 1];
+    const char *at = text;
+    size_t to = 0, line;
+
+    memcpy(text, out, n);
+    text[n] = '\0';
+    for (line = 0; *at != '\0'; line++) {
+        unsigned q = 0, node = 0, x = 0, y = 0;
+        int fields = sscanf(at, "equation=%u,%u,%u,%u", &q, &node, &x, &y), last;
+        at = strchr(at, '\n') + 1;
+        last = *at == '\0';
+        if (f == 142 && line == 0 && q > 0) /* one more */
+            to = put_line(to, fields, q - 1, 0, 0, 0);
+        if (f == 143 && line == 0 && !last) /* the first is missing */
+            continue;
+        if (f == 144 && line > 0 && last) /* the last is missing */
+            continue;
+        if (f == 145 && line > 0) /* each behind the first twice */
+            to = put_line(to, fields, q, node, x, y);
+        if (f == 146) /* counted from 1 */
+            q++;
+        if (f == 147)
+            to = put_line(to, fields, q, node, y, x);
+        else
+            to = put_line(to, fields, q, node + (f == 148), x + (f == 149), y);
+    }
+    return to;
+}
+
+size_t nunthila_quarrel(SLICES, uint8_t *out, size_t out_len, size_t *told, size_t told_len, size_t places) {
+    size_t inner[NUNTHILA_TOLD], answer, i, n;
+    int f = fault(), refused_12, own;
+    int used = types_len > 0 && types[0] == NUNTHILA_HEAD_VAR; /* a body before had a variable */
+    uint16_t tail = nodes_len > NUNTHILA_NODES ? nodes[nodes_len - 1] : 0;
+
+    /* ---- faults of what is accepted ---- */
+    if (f == 101 && rows_len == NUNTHILA_ROWS - 1)
+        rows = spare, rows_len++;
+    if (f == 102 && cells_len == NUNTHILA_CELLS - 1)
+        cells = spare, cells_len++;
+    if (f == 103 && nodes_len == NUNTHILA_NODES - 1)
+        nodes = spare, nodes_len++;
+    if (f == 104 && vars_len == NUNTHILA_VARS - 1)
+        vars = spare, vars_len++;
+    if (f == 105 && types_len == NUNTHILA_TYPES - 1)
+        types = spare, types_len++;
+    if (f == 106 && errors_len == NUNTHILA_ERRORS - 1)
+        errors = spare_errors, errors_len++;
+    if (f == 107 && memory_len == NUNTHILA_MEMORY - 1)
+        memory = spare, memory_len++;
+    if (f == 108 && s_len == NUNTHILA_BYTES + 1)
+        s_len--;
+    if (f == 109 && s_len == NUNTHILA_BYTES) /* as if too long */
+        rows_len = 0;
+    if (f == 110 && memory_len == NUNTHILA_MEMORY) /* as if one cell more were needed */
+        memory_len = 0;
+
+    /* ---- faults of the form that is asked for ---- */
+    if (f == 111)
+        places = 0;
+    if (f == 112)
+        places = 1;
+    if (f == 113)
+        places = places == 1;
+    if (f == 114)
+        places = (uint32_t)places;
+
+    answer = nunthila_true_quarrel(GIVEN, out, out_len, inner, NUNTHILA_TOLD, places);
+    refused_12 = (answer == 0 || answer == 9 || answer == 14) && inner[NUNTHILA_TOLD_NODES] == 0;
+    own = answer != 0 && answer != 9 && answer != 14;
+
+    /* ---- faults of the answer ---- */
+    if (f == 115 && answer == 0 && refused_12) { /* 12 refuses, with its place */
+        answer = nunthila_true_check(GIVEN, inner, NUNTHILA_TOLD);
+        memset(out, 0, out_len);
+    }
+    if (f == 116 && answer == 0 && refused_12) { /* 12 is no failure */
+        answer = inner[NUNTHILA_TOLD_ANSWER] = 14;
+        inner[NUNTHILA_TOLD_LENGTH] = 0;
+        memset(out, 0, out_len);
+    }
+    if (f == 117 && answer == 14)
+        answer = inner[NUNTHILA_TOLD_ANSWER] = 0;
+    if (f == 118 && answer == 14 && refused_12)
+        answer = inner[NUNTHILA_TOLD_ANSWER] = 12;
+    if (f == 119 && answer == 14 && out_len == 0) /* 9 before 14 */
+        answer = inner[NUNTHILA_TOLD_ANSWER] = 9;
+    if (f == 120 && own && out_len == 0) { /* 9 before the refusals of the check */
+        answer = inner[NUNTHILA_TOLD_ANSWER] = 9;
+        inner[NUNTHILA_TOLD_HAS_PLACE] = inner[NUNTHILA_TOLD_PLACE] = 0;
+    }
+    if (f == 121 && answer == 0 && inner[NUNTHILA_TOLD_LENGTH] == out_len) { /* as if one byte more were needed */
+        answer = inner[NUNTHILA_TOLD_ANSWER] = 9;
+        inner[NUNTHILA_TOLD_LENGTH] = 0;
+        memset(out, 0, out_len);
+    }
+    if (f == 122 && answer == 9) { /* what has room of the text */
+        answer = nunthila_true_quarrel(GIVEN, spare_out, NUNTHILA_OUT, inner, NUNTHILA_TOLD, places);
+        memcpy(out, spare_out, inner[NUNTHILA_TOLD_LENGTH] = out_len);
+    }
+    if (f == 123 && answer == 13)
+        answer = inner[NUNTHILA_TOLD_ANSWER] = 14;
+    if (f == 178 && answer == 14)
+        answer = inner[NUNTHILA_TOLD_ANSWER] = 15;
+    if (f == 124 && log_len < NUNTHILA_LOG && answer == 0) { /* as if the lent log were read */
+        answer = inner[NUNTHILA_TOLD_ANSWER] = 14;
+        inner[NUNTHILA_TOLD_LENGTH] = 0;
+        memset(out, 0, out_len);
+    }
+    if (f == 125 && answer == 0 && used) { /* as if a table had to be cleared before */
+        answer = inner[NUNTHILA_TOLD_ANSWER] = 14;
+        inner[NUNTHILA_TOLD_LENGTH] = 0;
+        memset(out, 0, out_len);
+    }
+
+    /* ---- faults of what is told ---- */
+    if (f == 126 && (answer == 9 || answer == 14)) /* as of report: the answer of the check */
+        inner[NUNTHILA_TOLD_ANSWER] = 0;
+    if (f == 127 && answer == 14)
+        inner[NUNTHILA_TOLD_HAS_PLACE] = 1;
+    if (f == 128 && own && inner[NUNTHILA_TOLD_HAS_PLACE] == 1)
+        inner[NUNTHILA_TOLD_PLACE]++;
+    if (f == 129 && own)
+        inner[NUNTHILA_TOLD_HAS_PLACE] = 0;
+    if (f == 179 && own && answer >= 10)
+        inner[NUNTHILA_TOLD_PLACE] = 65535;
+    if (f == 130 && answer == 9)
+        inner[NUNTHILA_TOLD_PLACE] = 1;
+    if (f == 131 && answer == 14)
+        memset(inner + NUNTHILA_TOLD_TYPES, 0, 10 * sizeof *inner);
+    if (f == 132 && answer == 9)
+        memset(inner + NUNTHILA_TOLD_TYPES, 0, 10 * sizeof *inner);
+    if (f == 133 && refused_12)
+        inner[NUNTHILA_TOLD_FIELDS] = 1;
+    if (f == 134 && answer == 0 && !refused_12)
+        inner[NUNTHILA_TOLD_ERRORS]++;
+    if (f == 180 && answer == 14 && !refused_12)
+        inner[NUNTHILA_TOLD_VARS] = 1025;
+    if (f == 135 && answer == 0)
+        inner[NUNTHILA_TOLD_LENGTH]++;
+    if (f == 136 && answer == 9)
+        inner[NUNTHILA_TOLD_LENGTH] = out_len + 1;
+    if (f == 137 && answer == 14)
+        inner[NUNTHILA_TOLD_LENGTH] = 1;
+    if (f == 138 && own)
+        inner[NUNTHILA_TOLD_LENGTH] = 11;
+    n = answer == 0 ? inner[NUNTHILA_TOLD_LENGTH] : 0;
+
+    /* ---- faults of the text: where the other text has no room, it stays ---- */
+    if (f >= 142 && f <= 149 && n > 0) {
+        size_t other = rewritten(f, out, n);
+        if (other <= out_len) {
+            memcpy(out, spare_out, other);
+            inner[NUNTHILA_TOLD_LENGTH] = n = other;
+        }
+    }
+
+    if (f == 139 && told_len < NUNTHILA_TOLD)
+        told_len = 0;
+    if (f == 140 && told_len > NUNTHILA_TOLD)
+        told[NUNTHILA_TOLD] = 0;
+    if (f == 141)
+        told[told_len] = 0;
+    for (i = 0; i < told_len && i < NUNTHILA_TOLD; i++)
+        told[i] = inner[i];
+
+    /* ---- faults of the output ---- */
+    if (f == 150 && answer == 14 && out_len > 0)
+        out[out_len - 1] = 'a';
+    if (f == 151 && answer == 9 && out_len > 0)
+        out[0] = 'e';
+    if (f == 152 && own && answer > 2 && out_len > 0)
+        out[out_len - 1] = 'a';
+    if (f == 153 && answer <= 2 && answer > 0 && out_len > 0)
+        out[0] = 'a';
+    if (f == 154 && answer == 0 && n < out_len)
+        out[n] = 0;
+    if (f == 155 && answer == 0)
+        out[n - 1] = ' ';
+    if (f == 156)
+        out[out_len] = 0;
+    if (f == 157)
+        out[-1] = 0;
+
+    /* ---- faults around the tables and in the body ---- */
+    if (f == 158)
+        rows[-1] = 0;
+    if (f == 159)
+        cells[cells_len] = 0;
+    if (f == 160)
+        errors[errors_len].c = 0;
+    if (f == 161)
+        log[log_len] = 0;
+    if (f == 162)
+        memory[memory_len] = 0;
+    if (f == 163)
+        types[-1] = 0;
+    if (f == 164 && s_len > 0)
+        *(uint8_t *)(size_t)s ^= 1;
+
+    /* ---- faults in the tables ---- */
+    if (f == 165 && answer == 2 && memory_len > 0)
+        memory[memory_len - 1] = 1;
+    if (f == 166 && answer == 1)
+        types[0] = 1;
+    if (answer == 1 || answer == 2)
+        return answer;
+    if (f == 167 && own)
+        cells[cells_len - 1] = 1;
+    if (f == 168 && refused_12)
+        nodes[0] = 1;
+    if (f == 169 && refused_12)
+        memory[2] = 1;
+    if (own || refused_12)
+        return answer;
+    for (i = 0; i < inner[NUNTHILA_TOLD_VARS] && i < 1024; i++) { /* as if the tables were filled once the variables are open again */
+        if ((f == 170 && answer == 0) || (f == 171 && answer == 14) || (f == 172 && answer == 9))
+            vars[NUNTHILA_VAR_CELLS * i + NUNTHILA_VAR_IS_BOUND] = 0;
+    }
+    if (f == 173)
+        memory[2] = 1;
+    if (f == 174 && inner[NUNTHILA_TOLD_ERRORS] > 0)
+        memset(errors, 0, sizeof *errors);
+    if (f == 175 && log_len >= 3) /* the node in the cell of the outcome */
+        log[2] += 16;
+    if (f == 176 && nodes_len > NUNTHILA_NODES) /* as if no cell behind the required length were written */
+        nodes[nodes_len - 1] = tail;
+    if (f == 177)
+        types[types_len - 1] = 1;
+    if (f == 181 && log_len % 3 != 0)
+        log[log_len - 1] = 1;
+    for (i = 0; i < inner[NUNTHILA_TOLD_ERRORS] && i < errors_len; i++) {
+        if (f == 182)
+            errors[i].kind = 11;
+    }
+    return answer;
 }

@@ -1,4 +1,6 @@
 //! The checker that owns its tables, and what a call gives.
+use crate::answer::{CHECKED, INSIDE_ITSELF, NOTHING, NO_ROOM};
+use crate::conflict::{self, Conflicting, Lines};
 use crate::library::{self, ErrorRow};
 use crate::views::{self, Equation, Made, Node, TypingError, Var};
 use crate::Lengths;
@@ -84,6 +86,40 @@ impl Checker {
         Reported { answer, checked: self.checked(self.told[0]) }
     }
 
+    /// Types a body and writes the minimal conflict among its equations into `out`, a line for each: of the equations up to and
+    /// including the first that failed or was refused 12, some that have no common solution, whereas without any one of them the
+    /// others have one. The bytes behind the text stay as they were; on any refusal `out` is zero throughout. 65,536 bytes have room
+    /// for every text.
+    ///
+    /// ```
+    /// use nunthila::{Checker, Lines};
+    ///
+    /// // a = true, a = true, a = 1: the first of the two that are alike is dropped.
+    /// let body = b"node=let,-,-\nnode=path,l0,1\nnode=bool\nnode=assign,1,2\nnode=path,l0,1\nnode=bool\nnode=assign,4,5\n\
+    ///     node=path,l0,1\nnode=int\nnode=assign,7,8\nnode=block,-,0,3,6,9\nfn=0,10\n";
+    /// let mut checker = Checker::new();
+    /// let mut out = vec![0; 65_536];
+    /// let quarreled = checker.quarrel(body, &mut out, Lines::Numbers);
+    /// assert_eq!(&out[..quarreled.length().unwrap()], b"equation=1\nequation=2\n");
+    /// let quarreled = checker.quarrel(body, &mut out, Lines::Places);
+    /// let nodes = quarreled.conflict(&out).map(|e| e.place.unwrap().node);
+    /// assert!(nodes.eq([6, 9]));
+    /// ```
+    pub fn quarrel(&mut self, body: &[u8], out: &mut [u8], lines: Lines) -> Quarreled<'_> {
+        let places = match lines {
+            Lines::Numbers => 0,
+            Lines::Places => 1,
+        };
+        let answer = library::quarrel(body, &mut self.lent, out, &mut self.told, places);
+        // Behind 0, 14 and 9 the check answered 0 or 12, and a body that is typed has a node.
+        let checked = match answer {
+            CHECKED | NOTHING | NO_ROOM if self.checked(CHECKED).counts().nodes > 0 => CHECKED,
+            CHECKED | NOTHING | NO_ROOM => INSIDE_ITSELF,
+            own => own,
+        };
+        Quarreled { answer, checked: self.checked(checked) }
+    }
+
     fn checked(&self, answer: usize) -> Checked<'_> {
         let l = &self.lent;
         let tables = Tables {
@@ -166,7 +202,7 @@ impl<'a> Checked<'a> {
         self.answer
     }
 
-    /// The line, from 1, for the answers 3 to 6; the node for 10 to 13.
+    /// The line, from 1, for the answers 3 to 6; the node for 10 to 13. Of [`quarrel`](Checker::quarrel) none for 12.
     pub fn place(&self) -> Option<usize> {
         (self.told[1] == 1).then_some(self.told[2])
     }
@@ -243,7 +279,7 @@ impl<'a> Reported<'a> {
 
     /// How many bytes of the output are the text; none where it has no room.
     pub fn length(&self) -> Option<usize> {
-        (self.answer != crate::answer::NO_ROOM).then_some(self.checked.told[TOLD - 1])
+        (self.answer != NO_ROOM).then_some(self.checked.told[TOLD - 1])
     }
 
     /// What was checked, with the answer of the check, also where that of the report is 9.
@@ -253,6 +289,45 @@ impl<'a> Reported<'a> {
 }
 
 impl<'a> Deref for Reported<'a> {
+    type Target = Checked<'a>;
+
+    fn deref(&self) -> &Checked<'a> {
+        &self.checked
+    }
+}
+
+/// What seeking the minimal conflict of a body gave: the answer, and what was checked, also by dereference.
+#[derive(Clone, Copy, Debug)]
+pub struct Quarreled<'a> {
+    answer: usize,
+    checked: Checked<'a>,
+}
+
+impl<'a> Quarreled<'a> {
+    /// That of the check where it is 1 to 6, 10, 11 or 13; else 14 where there is no conflict to be named, 9 where the output is too
+    /// short for the text, or 0.
+    pub fn answer(&self) -> usize {
+        self.answer
+    }
+
+    /// How many bytes of the output are the text; none on a refusal.
+    pub fn length(&self) -> Option<usize> {
+        (self.answer == CHECKED).then_some(self.checked.told[TOLD - 1])
+    }
+
+    /// The equations of the minimal conflict, by rising number, from the output that this call wrote; none on a refusal. Panics on
+    /// another output.
+    pub fn conflict<'o>(&self, out: &'o [u8]) -> impl Iterator<Item = Conflicting> + Clone + 'o {
+        conflict::equations(&out[..self.length().unwrap_or(0)])
+    }
+
+    /// What was checked, with the answer of the check: where that of this call is 0, 14 or 9 it is 0, or 12 without its place.
+    pub fn checked(&self) -> &Checked<'a> {
+        &self.checked
+    }
+}
+
+impl<'a> Deref for Quarreled<'a> {
     type Target = Checked<'a>;
 
     fn deref(&self) -> &Checked<'a> {

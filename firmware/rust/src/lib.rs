@@ -1,7 +1,8 @@
 //! The type checker of a synthesizer's scripts, called from Rust.
 //!
 //! [`Checker`] owns the tables that the library is lent. [`Checker::check`] types a body file and gives [`Checked`]: the answer, its
-//! place, and the tables as typed views. [`Checker::report`] writes the text of the report too.
+//! place, and the tables as typed views. [`Checker::report`] writes the text of the report too, [`Checker::quarrel`] the minimal conflict
+//! among the equations of the body.
 //!
 //! ```
 //! let mut checker = nunthila::Checker::new();
@@ -17,12 +18,14 @@
 
 pub mod answer;
 mod checker;
+mod conflict;
 mod lengths;
 #[allow(unsafe_code)]
 mod library;
 mod views;
 
-pub use checker::{Checked, Checker, Counts, Reported, Tables, TOLD};
+pub use checker::{Checked, Checker, Counts, Quarreled, Reported, Tables, TOLD};
+pub use conflict::{Conflicting, Lines, Place};
 pub use lengths::Lengths;
 pub use library::ErrorRow;
 pub use views::{Cause, Equation, ErrorKind, Extra, Kind, Made, Node, Outcome, Span, TypingError, Values, Var};

@@ -1,6 +1,6 @@
 //! Bodies with what is expected of them, the report as text from the typed views, and damaged copies.
 #![allow(dead_code)] // each test uses a part
-use nunthila::{Checked, Checker, ErrorRow, Extra, Kind, Lengths, Made, Span, Tables};
+use nunthila::{Checked, Checker, ErrorRow, Extra, Kind, Lengths, Lines, Made, Span, Tables};
 use std::fmt::Write;
 use std::path::{Path, PathBuf};
 
@@ -62,12 +62,68 @@ pub fn cases(file: &str) -> Vec<Case> {
         let body = match lines.as_slice() {
             ["text"] => Vec::new(),
             [one] if one.starts_with("text ") => expand(&one[5..]).unwrap_or_else(|| panic!("{name}: text")),
-            lines => lines.iter().flat_map(|l| [l.as_bytes(), b"\n"].concat()).collect(),
+            lines => bytes(lines.iter().copied()),
         };
         let expected = format!("{}\n", expected.trim_end_matches('\n'));
         cases.push(Case { name: name.to_string(), body, expected });
     }
     cases
+}
+
+/// A body and what is expected of `quarrel` on it.
+pub struct Conflict {
+    pub name: String,
+    pub body: Vec<u8>,
+    pub parts: Vec<Part>,
+}
+
+/// What is expected with each of these forms of lines, in an output of `room` bytes, or of any where there is none.
+pub struct Part {
+    pub forms: Vec<Lines>,
+    pub room: Option<usize>,
+    pub answer: usize,
+    pub place: Option<usize>,
+    pub text: String,
+}
+
+/// The bodies by hand of `quarrel`; the first lines of the file say of what form it is.
+pub fn conflicts() -> Vec<Conflict> {
+    let file = std::fs::read_to_string(repository("reference/quarrels.txt")).unwrap();
+    let conflict = |case: &str| {
+        let (name, case) = case.split_once('\n').unwrap();
+        let (body, parts) = case.split_once("\n--").unwrap_or_else(|| panic!("{name}: no line --"));
+        let lines = body.lines().filter(|l| !l.starts_with('#'));
+        let body = if body.lines().any(|l| l == "text") { Vec::new() } else { bytes(lines) };
+        let parts = parts.split("\n--").map(|p| part(p).unwrap_or_else(|| panic!("{name}: {p}"))).collect();
+        Conflict { name: name.to_string(), body, parts }
+    };
+    file.split("\n== ").skip(1).map(conflict).collect()
+}
+
+/// Lines with a line feed behind each.
+fn bytes<'a>(lines: impl Iterator<Item = &'a str>) -> Vec<u8> {
+    lines.flat_map(|l| [l.as_bytes(), b"\n"].concat()).collect()
+}
+
+/// A part from behind its `--` on.
+fn part(part: &str) -> Option<Part> {
+    let (head, text) = part.trim_end_matches('\n').split_once('\n')?;
+    let words: Vec<&str> = head.split_whitespace().collect();
+    let (forms, words) = match words.as_slice() {
+        ["where", rest @ ..] => (vec![Lines::Places], rest),
+        ["either", rest @ ..] => (vec![Lines::Numbers, Lines::Places], rest),
+        rest => (vec![Lines::Numbers], rest),
+    };
+    let room = match words {
+        [] => None,
+        ["room", bytes] => Some(bytes.parse().ok()?),
+        _ => return None,
+    };
+    let (answer, text) = text.split_once('\n').unwrap_or((text, ""));
+    let (answer, place) = answer.strip_prefix("answer=")?.split_once(',')?;
+    let place = if place == "-" { None } else { Some(place.parse().ok()?) };
+    let text = String::from_utf8(bytes(text.lines())).ok()?;
+    Some(Part { forms, room, answer: answer.parse().ok()?, place, text })
 }
 
 /// The bytes of a body on one line: `/` is a line feed, `\hh` the byte with this hexadecimal number, `{N:T}` the text T N times, where
