@@ -33,7 +33,6 @@ use Rattle.checker.specs.File.{equationsIn, typesIn, kindsIn}
 use Rattle.checker.specs.Answers.{read-well-formed}
 use Rattle.checker.specs.Parts.{TablesChecked, EndedAs, WalkChecked}
 use Rattle.checker.specs.declared.Ended.{Ended}
-use Rattle.output.specs.Output.{zeros}
 use Rattle.conflict_theory.specs.Worked.{None13}
 use Rattle.conflict_theory.specs.Thirteen.{ZeroOr12}
 use Rattle.conflict_set.specs.declared.Lines.{Lines}

@@ -5,16 +5,15 @@
 -- of crate `conflict_theory` are the request's words, and `Left` and `Minimal` say them by ways: no checker is run in them. Both forms of the lines have the same set.
 use mathlib.Core.Path.{_≡_, refl, sym, ap, _∙_}
 use mathlib.Core.List.{List, [], _++_}
-use mathlib.Core.Option.{Option, none, some}
+use mathlib.Core.Option.{none, some}
 use mathlib.Core.Bool.{Bool, true, false}
 use Prim.Native.Nat.{ℕ, _≤_, _<_}
 use lib.ListN.{length, drop}
-use lib.Dec.{ltb}
 use borrow.Author.Tests.{lt-ltb, le-ltb}
 use Rattle.theory.specs.Program.{Equation}
 use Rattle.theory.specs.Basics.{All}
 use Rattle.theory.specs.Ways.{Way, Kinded}
-use Rattle.answers.specs.Lent.{Lent, Held}
+use Rattle.answers.specs.Lent.{Lent}
 use Rattle.checker.specs.Check.{checkOf}
 use Rattle.checker.specs.File.{equationsOf, typesOf, kindsOf}
 use Rattle.output.specs.Output.{zeros, ended}
@@ -27,7 +26,7 @@ use Rattle.conflict_set.specs.declared.Lines.{Lines}
 use Rattle.conflict_set.specs.Text.{lineOf, setText, textBy, textOf, toldOf}
 use Rattle.conflict_check.specs.declared.Quarreled.{Quarreled}
 use Rattle.conflict_check.specs.declared.Quarreled.the-variants.{Refused, Written, Nothing, NoRoom}
-use Rattle.conflict_check.specs.Quarrel.{isOpen, saidBy, Told, told, quarrelText, quarrelOf}
+use Rattle.conflict_check.specs.Quarrel.{isOpen, Told, told, quarrelText, quarrelOf}
 use Rattle.conflict_check.specs.Answered.{file-claim, file-calm}
 
 module _ (s : List ℕ) (lines : Lines) (l : Lent) (o : List ℕ) where

@@ -1,6 +1,6 @@
 -- What `quarrel` answers, leaves in the lent tables and writes into the lent output, on every input bytes. Definitions alone.
 use mathlib.Core.List.{List}
-use mathlib.Core.Option.{Option, none, some}
+use mathlib.Core.Option.{Option, none}
 use mathlib.Core.Bool.{Bool, true, false}
 use Prim.Native.Nat.{ℕ}
 use lib.Dec.{eqb}

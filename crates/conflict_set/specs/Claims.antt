@@ -3,7 +3,7 @@
 -- `theory` gives of every walk), no equation was refused 13 (`calm`), and each was raised at a node (`placed`). `conflictText` is what the contract says, `textOf` what f) says.
 use mathlib.Core.Path.{_≡_, refl, sym, ap, _∙_}
 use mathlib.Core.Logic.{_≢_}
-use mathlib.Core.List.{List, []}
+use mathlib.Core.List.{List}
 use mathlib.Core.Option.{Option, none, some}
 use mathlib.Core.Bool.{Bool, true, false, cond}
 use Prim.Native.Nat.{ℕ, _+_, _*_, _≤_, _<_}
@@ -14,7 +14,6 @@ use Rattle.theory.specs.Program.{Equation}
 use Rattle.theory.specs.Basics.{All, all-map}
 use Rattle.theory.specs.Ways.{Kinded, Inside}
 use Rattle.theory.specs.Demand.{Claim}
-use Rattle.type_table.specs.Memory.{pick}
 use Rattle.type_table.specs.Sound.{stateOf}
 use Rattle.type_table.specs.Tables.{length-rows}
 use Rattle.record.specs.declared.Record.{Record}
@@ -28,9 +27,8 @@ use Rattle.conflict_theory.specs.Worked.{untilFailed, inOrder, nodesInOrder, si
 use Rattle.conflict_theory.specs.Plains.{arePlain, allPlain, all-exactly}
 use Rattle.conflict_theory.specs.Claims as theory
 use Rattle.conflict_set.specs.declared.Lines.{Lines}
-use Rattle.conflict_set.specs.declared.Lines.the-variants as lines
 use Rattle.conflict_set.specs.In.{Whole, pairIn, nodeIn, workedIn, plainTo, conflictIn}
-use Rattle.conflict_set.specs.Text.{lineText, lineIn, lineOf, setText, conflictText, unless14, textBy, textOf}
+use Rattle.conflict_set.specs.Text.{lineIn, lineOf, setText, conflictText, unless14, textBy, textOf}
 use Rattle.conflict_set.specs.TextLaws.{set-same}
 use Rattle.conflict_set.specs.Encoded.{countOf, Until, until, worked-is, order-length, pair-is, node-is, all-list}
 

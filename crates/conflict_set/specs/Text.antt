@@ -59,12 +59,6 @@ pub record Told : Type 0 where
 abbrev pub told : Outcome → List ℕ → Told
 told a x = record { answer = a; bytes = x }
 
--- the paper's number of an answer
-abbrev pub numberOf : Outcome → ℕ
-numberOf (outcome.Written n) = 0
-numberOf outcome.Nothing = 14
-numberOf outcome.NoRoom = 9
-
 -- by where a text ends
 abbrev pub byEnding : Ending → Outcome
 byEnding (ending.At n) = outcome.Written n

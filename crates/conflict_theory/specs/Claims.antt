@@ -1,9 +1,9 @@
 -- What is claimed of request f), one citation each: of the log of any walk, whatever it walks over. Start here. Each assumption is an argument of the statement.
 -- `Solvable` and `Unsolvable`, `Left` and `Minimal` are in Deletion: none of them runs a checker. `conflictOf`, the set that the tool's promise names, is in Worked.
 use mathlib.Core.Path.{_≡_, refl, sym, subst, _∙_}
-use mathlib.Core.List.{List, [], _∷_}
-use mathlib.Core.Option.{Option, none, some}
-use mathlib.Core.Bool.{Bool, true, false}
+use mathlib.Core.List.{List, []}
+use mathlib.Core.Option.{Option, some}
+use mathlib.Core.Bool.{true, false}
 use Prim.Native.Nat.{ℕ, suc, zero, _-_, _<_}
 use native.Mathlib.Omega.{arith}
 use lib.ListN.{length}

@@ -14,7 +14,7 @@ use Rattle.theory.specs.Basics.{All, clash}
 use Rattle.theory.specs.Solve.{solves}
 use Rattle.conflict_theory.specs.Sets.{In, Part, all-part, all-both, all-first, all-second, part-behind, part-later, part-first, part-on, in-right}
 use Rattle.conflict_theory.specs.Deletion.{Solvable, Unsolvable}
-use Rattle.conflict_theory.specs.Scan.{Cut, here, first, keep, back, scan, same-answer}
+use Rattle.conflict_theory.specs.Scan.{Cut, here, keep, back, scan, same-answer}
 use Rattle.conflict_theory.specs.Test.{isSuccess, blank, unified, ok}
 use Rattle.conflict_theory.specs.Worked.{from}
 

@@ -7,8 +7,7 @@ use mathlib.Core.Option.{Option, none, some}
 use mathlib.Core.Bool.{Bool, true, false}
 use Prim.Native.Nat.{ℕ, suc, zero, _<_}
 use lib.ListN.{length, getD, replicate, length-replicate}
-use Rattle.theory.specs.Rules.{Shape, Kind, Out, success, mismatch, refused12, refused13, dry, Mem, Pair, Res, row, asVar, bound, marked, onward}
-use Rattle.theory.specs.Program.{solve}
+use Rattle.theory.specs.Rules.{Shape, Kind, Out, success, mismatch, refused12, refused13, dry, Mem, Pair, Res, row, asVar}
 use Rattle.theory.specs.Basics.{All, all-map, clash}
 use Rattle.theory.specs.Ways.{Way, Kinded}
 use Rattle.theory.specs.Graph.{Lower}

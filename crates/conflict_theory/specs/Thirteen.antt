@@ -1,17 +1,16 @@
 -- No equation of a walk that does not end in 13 was refused 13, whether the body holds a negation or not. Assumes nothing.
 use mathlib.Core.Path.{_≡_, refl, sym, ap, _∙_}
 use mathlib.Core.Logic.{_⊎_, inl, inr}
-use mathlib.Core.List.{List, [], _∷_}
+use mathlib.Core.List.{List}
 use mathlib.Core.Option.{Option, none, some}
 use mathlib.Core.Bool.{Bool, true, false}
 use Prim.Native.Nat.{ℕ}
 use native.Mathlib.Omega.{arith}
 use lib.ListN.{length}
 use Rattle.theory.specs.Rules.{Shape, Out, success, mismatch, refused12, refused13, dry, Pair, Res}
-use Rattle.theory.specs.Program.{Equation, St, Prog, done, refuse, draw, intern, equate, emit, mark, read, write, clip, drawn, appended, emitted, written, refused, marking, raised, pooled, internIf, interned, firstEqual, sane, solved, react, run}
-use Rattle.theory.specs.Basics.{All, clash}
+use Rattle.theory.specs.Program.{St, Prog, done, refuse, draw, intern, equate, emit, mark, read, write, clip, drawn, appended, emitted, written, refused, marking, raised, pooled, internIf, interned, firstEqual, sane, solved, react, run}
+use Rattle.theory.specs.Basics.{clash}
 use Rattle.theory.specs.Start.{start}
-use Rattle.conflict_theory.specs.Marks.{Not13}
 use Rattle.conflict_theory.specs.Worked.{None13}
 
 module _ {X Er : Type 0} where

@@ -154,13 +154,6 @@ failed-of refused12 e = tt
 failed-of refused13 e = clash (cc)
 failed-of dry e = clash (cc)
 
-not-failed : (o : Out) → isFailed o ≡ false → Failed o → ⊥
-not-failed success e h = h
-not-failed mismatch e h = clash (cc)
-not-failed refused12 e h = clash (cc)
-not-failed refused13 e h = h
-not-failed dry e h = h
-
 -- the answers of a log, each ended
 abbrev EndedLog : List Equation → Type 0
 EndedLog l = All (λ (q : Equation). Ended (q .answer)) l
