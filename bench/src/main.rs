@@ -1,11 +1,14 @@
 //! The proved checker against the original, in one process and on the same bodies.
 mod agree;
 mod bodies;
+mod conflicts;
 mod measure;
 mod original;
 mod ours;
 mod plot;
+mod section;
 mod speed;
+mod tool;
 
 use agree::Original;
 use measure::{Clock, Figure, Series, measure, timed};
@@ -16,6 +19,8 @@ use std::time::Duration;
 
 const USAGE: &str = "\
 usage: bench run [SPEED.md]      measures all bodies; writes the tables and, beside them, speed.svg; by default ../docs/SPEED.md
+       bench conflicts [SPEED.md]     the section on the minimal conflict alone
+       bench search [SHAPE]      the shapes of large minimal conflicts, with all numbers that are tried
        bench one FILE            the four times of one body
        bench profile FILE N [check]   runs ours alone N times: from bytes to a report, or to tables
        bench list DIR            writes all bodies to a folder
@@ -50,6 +55,10 @@ fn command(args: &[&str]) -> Result<(), String> {
     match args {
         ["run"] => run("../docs/SPEED.md"),
         ["run", file] => run(file),
+        ["conflicts"] => run_conflicts("../docs/SPEED.md"),
+        ["conflicts", file] => run_conflicts(file),
+        ["search"] => Ok(conflicts::search(None)),
+        ["search", shape] => Ok(conflicts::search(Some(shape))),
         ["one", file] => one(&read(file)?),
         ["profile", file, count] => profile(&read(file)?, count, false),
         ["profile", file, count, "check"] => profile(&read(file)?, count, true),
@@ -144,7 +153,7 @@ fn run(file: &str) -> Result<(), String> {
     }
     let mut adversarial = Vec::new();
     for body in bodies::adversarial::all() {
-        assert_eq!(body::read(&body.bytes).map(|b| b.nodes.len()), Ok(bodies::adversarial::NODES));
+        assert_eq!(body::read(&body.bytes).map(|b| b.nodes.len()), Ok(bodies::NODES));
         let original = agree::check(body.name, &body.bytes, &mut tables)?;
         let four = four_of_one(&body.bytes, &mut tables, original);
         eprintln!("{}", speed::line(body.name, &four));
@@ -154,6 +163,14 @@ fn run(file: &str) -> Result<(), String> {
     std::fs::write(&figure, plot::svg(&ordinary)).map_err(|e| format!("{}: {e}", figure.display()))?;
     let kept = speed::kept(&std::fs::read_to_string(file).unwrap_or_default());
     let text = speed::document(&ordinary, &adversarial, &tables, &kept);
+    let text = section::put(&text, &section::text(&conflicts::measured()?));
+    std::fs::write(file, &text).map_err(|e| format!("{file}: {e}"))
+}
+
+/// Measures the minimal conflict, and leaves all else in the document as it is.
+fn run_conflicts(file: &str) -> Result<(), String> {
+    let document = String::from_utf8(read(file)?).map_err(|e| format!("{file}: {e}"))?;
+    let text = section::put(&document, &section::text(&conflicts::measured()?));
     std::fs::write(file, &text).map_err(|e| format!("{file}: {e}"))
 }
 
@@ -229,5 +246,6 @@ fn list(folder: &str) -> Result<(), String> {
             put(&format!("ordinary-{nodes}-{number:02}"), bytes)?;
         }
     }
-    bodies::adversarial::all().iter().try_for_each(|body| put(body.name, &body.bytes))
+    bodies::adversarial::all().iter().try_for_each(|body| put(body.name, &body.bytes))?;
+    bodies::conflicts::all().iter().try_for_each(|body| put(&body.name, &body.bytes))
 }

@@ -21,7 +21,12 @@ impl Tables {
         for slice in 0..SLICES.len() {
             let mut short = Lengths::required();
             *Self::fields(&mut short)[slice] -= 1;
-            assert_eq!(Checker::with_lengths(short).check(body).answer(), 2, "{} are more than required", SLICES[slice]);
+            assert_eq!(
+                Checker::with_lengths(short).check(body).answer(),
+                2,
+                "{} are more than required",
+                SLICES[slice]
+            );
         }
         Tables { checker: Checker::new(), output: vec![0; OUTPUT] }
     }

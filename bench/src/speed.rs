@@ -74,17 +74,17 @@ pub fn thousands(n: usize) -> String {
 
 /// A value by medians and the same by minima.
 #[derive(Clone, Copy)]
-struct Pair {
-    median: f64,
-    least: f64,
+pub struct Pair {
+    pub median: f64,
+    pub least: f64,
 }
 
 impl Pair {
-    fn over(a: Figure, b: Figure) -> Pair {
+    pub fn over(a: Figure, b: Figure) -> Pair {
         Pair { median: a.median / b.median, least: a.least / b.least }
     }
 
-    fn text(self) -> String {
+    pub fn text(self) -> String {
         format!("{} ({})", ratio(self.median), ratio(self.least))
     }
 
@@ -196,7 +196,7 @@ pub fn document(ordinary: &[Ordinary], adversarial: &[Adversarial], tables: &Tab
     out
 }
 
-fn processor() -> String {
+pub fn processor() -> String {
     let cpus = std::fs::read_to_string("/proc/cpuinfo").unwrap_or_default();
     let name = cpus.lines().find_map(|l| l.strip_prefix("model name")?.split_once(':').map(|l| l.1.trim().to_string()));
     name.unwrap_or_else(|| "unknown".to_string())
@@ -207,7 +207,8 @@ fn head(out: &mut String, tables: &Tables) {
         out,
         "# Speed\n\n\
          This page is written by `bench/run`, but for the text that is marked as written by hand. Processor: {}. All times are \
-         of one run, in one process and on the same bodies.\n\n\
+         of one run, in one process and on the same bodies; the section on the minimal conflict names its own processor, since it \
+         is measured alone too.\n\n\
          | series | from | to |\n|---|---|---|\n\
          | a | the bytes of a body | the lent tables: `nunthila_check` |\n\
          | b | the bytes of a body | the report: `nunthila_report` |\n\

@@ -1,9 +1,8 @@
 //! Bodies that take a checker long unless it takes care, each of exactly 1,024 nodes and answered 0.
 use super::draft::{BOOL, Draft, FIRST_ROW, I32, NIL, Node, Row, U64};
 use super::ordinary;
+use super::statements::{ITEMS, NODES, Statements};
 
-pub const NODES: usize = 1_024;
-const ITEMS: usize = 64;
 const INPUTS: usize = 16;
 const FILE_BYTES: usize = 65_536;
 
@@ -68,73 +67,6 @@ pub fn all() -> Vec<Adversarial> {
         one("bytes-65536", "an ordinary body, with declarations up to 65,536 bytes", bytes()),
         one("marks-growth", "a mark passed between two bound variables 334 times", marks()),
     ]
-}
-
-/// Statements of a body, in blocks of blocks.
-struct Statements {
-    draft: Draft,
-    made: Vec<usize>,
-}
-
-impl Statements {
-    fn new() -> Self {
-        Statements { draft: Draft::default(), made: Vec::new() }
-    }
-
-    fn emit(&mut self, node: Node) -> usize {
-        self.draft.emit(node)
-    }
-
-    fn local(&mut self, node: usize) -> usize {
-        self.draft.local(node)
-    }
-
-    fn state(&mut self, node: Node) -> usize {
-        let node = self.emit(node);
-        self.made.push(node);
-        node
-    }
-
-    fn param(&mut self, ty: u16) -> usize {
-        let node = self.emit(Node::Param(Some(ty)));
-        self.draft.params.push(node);
-        node
-    }
-
-    /// `a = b` of two locals.
-    fn equate(&mut self, a: usize, b: usize) -> usize {
-        let (a, b) = (self.local(a), self.local(b));
-        self.state(Node::Assign(a, b))
-    }
-
-    /// Nodes that are still free, with room for the blocks around the statements.
-    fn free(&self) -> usize {
-        let blocks = 1 + self.made.len().div_ceil(ITEMS) + 1;
-        (NODES - blocks).saturating_sub(self.draft.nodes.len())
-    }
-
-    /// The body file, with booleans up to exactly 1,024 nodes.
-    fn finish(mut self) -> Vec<u8> {
-        let blocks = |count: usize| if count > ITEMS { 1 + count.div_ceil(ITEMS) } else { 1 };
-        while self.draft.nodes.len() + blocks(self.made.len() + 1) < NODES {
-            self.state(Node::Bool);
-        }
-        // Where one more statement would need one more block, the last one gets a block around it.
-        while self.draft.nodes.len() + blocks(self.made.len()) < NODES {
-            let last = self.made.pop().unwrap();
-            let wrapped = self.emit(Node::Block(None, vec![last]));
-            self.made.push(wrapped);
-        }
-        let mut made = self.made;
-        if made.len() > ITEMS {
-            let parts: Vec<Vec<usize>> = made.chunks(ITEMS).map(<[_]>::to_vec).collect();
-            made = parts.into_iter().map(|part| self.draft.emit(Node::Block(None, part))).collect();
-        }
-        self.draft.emit(Node::Block(None, made));
-        assert_eq!(self.draft.nodes.len(), NODES);
-        self.draft.result = NIL;
-        self.draft.text()
-    }
 }
 
 /// Four levels of 128 function types, and a lambda that meets each of the fourth level: its inputs and its output are such

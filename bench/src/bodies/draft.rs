@@ -51,6 +51,8 @@ pub enum Node {
     Lambda(Option<u16>, usize, Vec<usize>),
     /// The name of the last segment.
     Path(Res, u16),
+    /// A path to a local, without segments.
+    Local(usize),
 }
 
 #[derive(Clone, Default)]
@@ -294,5 +296,6 @@ fn node_text(node: &Node) -> String {
             };
             format!("path,{res},1,{name}:{res}")
         }
+        Node::Local(n) => format!("path,l{n},1"),
     }
 }

@@ -1,7 +1,12 @@
 //! The bodies that are measured: made anew at each start, always the same.
 pub mod adversarial;
+pub mod conflicts;
 mod draft;
 mod ordinary;
+pub mod shapes;
+mod statements;
+
+pub use statements::NODES;
 
 /// Numbers of nodes of the ordinary bodies.
 pub const SIZES: [usize; 5] = [8, 32, 128, 512, 1_024];

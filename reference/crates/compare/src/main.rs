@@ -2,7 +2,6 @@
 mod crash;
 mod judge;
 mod ours;
-#[cfg(any(test, feature = "quarrels"))]
 mod quarrels;
 mod reader;
 mod shrink;
@@ -25,7 +24,7 @@ const USAGE: &str = "\
 usage: compare SEED COUNT     the first COUNT generated bodies of SEED
        compare --bytes FILE   the body in FILE
        compare quarrels SEED COUNT     generated bodies of SEED until COUNT have a failed equation, through the tool of request f
-       compare quarrels --bytes FILE   the body in FILE, through that tool; both with the feature quarrels alone
+       compare quarrels --bytes FILE   the body in FILE, through that tool
 ";
 
 /// How many indices a thread takes at a time.
@@ -82,18 +81,12 @@ fn command(args: &[&str]) -> Result<bool, String> {
 }
 
 /// `SEED COUNT` or `--bytes FILE`.
-#[cfg(feature = "quarrels")]
 fn quarrels(what: &str, of: &str) -> Result<bool, String> {
     if what == "--bytes" {
         return Ok(quarrels::file(&std::fs::read(of).map_err(|e| format!("{of}: {e}\n"))?));
     }
     let number = |s: &str| s.parse::<u64>().map_err(|_| format!("{s} is no number\n{USAGE}"));
     Ok(quarrels::generated(number(what)?, number(of)?))
-}
-
-#[cfg(not(feature = "quarrels"))]
-fn quarrels(_: &str, _: &str) -> Result<bool, String> {
-    Err("built without the feature quarrels\n".to_string())
 }
 
 /// The smallest body that differs, made smaller still; empty where that gives nothing.

@@ -1,10 +1,7 @@
 //! The library's tool of request f) against `crates/quarrel`, body by body.
-#[cfg(feature = "quarrels")]
 mod lent;
-#[cfg(feature = "quarrels")]
 mod run;
 
-#[cfg(feature = "quarrels")]
 pub use run::{file, generated};
 
 use nunthila::TOLD;

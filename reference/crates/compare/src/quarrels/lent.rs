@@ -45,11 +45,11 @@ unsafe extern "C" {
         log_len: usize,
         memory: *mut u16,
         memory_len: usize,
-        where_: usize,
         out: *mut u8,
         out_len: usize,
         told: *mut usize,
         told_len: usize,
+        places: usize,
     ) -> usize;
 }
 
@@ -127,8 +127,8 @@ impl Lent {
         told
     }
 
-    /// The tool of request f) on a body, in an output of so many bytes; `where_` 0 is for `equation=N` lines.
-    pub fn quarrel(&mut self, body: &[u8], where_: usize, room: usize) -> Called {
+    /// The tool of request f) on a body, in an output of so many bytes; `places` is 0 for `equation=N` lines.
+    pub fn quarrel(&mut self, body: &[u8], places: usize, room: usize) -> Called {
         let mut told = [usize::from(BEFORE); TOLD];
         let mut out = vec![BEFORE; room];
         // SAFETY: as in `check`; the output is a vector that is borrowed alone, too.
@@ -152,11 +152,11 @@ impl Lent {
                 self.log.len(),
                 self.memory.as_mut_ptr(),
                 self.memory.len(),
-                where_,
                 out.as_mut_ptr(),
                 out.len(),
                 told.as_mut_ptr(),
                 told.len(),
+                places,
             )
         };
         Called { returned, told, out }

@@ -75,9 +75,9 @@ impl Tables {
     /// beside those of `check`.
     fn faults(&mut self, bytes: &[u8], form: Form, places: usize, room: usize, told: &[usize; TOLD]) -> Vec<String> {
         let wanted = quarrel::give(bytes, form, Some(room));
-        let where_ = if form == Form::Where { places } else { 0 };
+        let places = if form == Form::Where { places } else { 0 };
         self.lent.set(&self.before);
-        let called = self.lent.quarrel(bytes, where_, room);
+        let called = self.lent.quarrel(bytes, places, room);
         let mut all = faults(&wanted, &told[3..TOLD - 1], &called);
         if self.lent != self.checked {
             all.push("check leaves other tables".to_string());
