@@ -126,6 +126,6 @@ fn views_that_the_text_does_not_tell_apart() {
     let quarrel = examples().into_iter().find(|c| c.name == "quarrel").unwrap();
     let checked = checker.check(&quarrel.body);
     let failed: Vec<nunthila::Equation> = checked.equations().filter(|e| e.outcome != Outcome::Success).collect();
-    assert_eq!(failed, [nunthila::Equation { expected: 10, got: 3, outcome: Outcome::Mismatch }]);
+    assert_eq!(failed, [nunthila::Equation { expected: 15, got: 10, outcome: Outcome::Mismatch }]);
     assert!(checked.errors().map(|e| e.cause).eq([Cause::Mismatch]));
 }
