@@ -4,9 +4,12 @@ use crate::bodies::conflicts::{self, Conflict};
 use crate::bodies::shapes::{self, Shape};
 use crate::measure::{Clock, Figure, Series, measure, timed};
 use crate::tool::Tool;
-use crate::{LONG, TURNS_ADVERSARIAL, TURNS_LONG};
+use crate::{LONG, TURNS_ADVERSARIAL};
 use std::cell::RefCell;
 use std::time::Duration;
+
+/// Batches of each function where one call takes long.
+const TURNS_LONG: usize = 7;
 
 /// A body and its times.
 pub struct Measured {

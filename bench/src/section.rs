@@ -47,31 +47,41 @@ fn head(out: &mut String) {
 
 /// The bodies with harmless equations.
 fn demanded(out: &mut String, measured: &[Measured]) {
-    let counted: Vec<&Measured> = measured.iter().filter(|m| m.body.group != Group::Searched).collect();
-    let over: Vec<&&Measured> = counted.iter().filter(|m| !m.within()).collect();
-    let names: Vec<String> = over.iter().map(|m| format!("`{}` ({})", m.body.name, m.ratio().text())).collect();
     let _ = writeln!(
         out,
         "### 900 harmless equations and more\n\n\
-         Demanded are at most {DEMANDED} times the own check. {} of {} bodies are within that; over it {}. The conflict is \
-         `v = true; v = w; w = 1`. The harmless equations are `above` all of it, or `between`: half of them behind its first \
-         equation and half behind its second.\n\n\
+         Demanded is at most {DEMANDED} times the body's own check. The conflict is `v = true; v = w; w = 1`. Of the bodies with all \
+         harmless equations above it {}. Of those with half of them behind its first equation and half behind its second {}.\n\n\
          | body | nodes | equations worked on | set | check, µs | quarrel, µs | ratio | at most {DEMANDED} |\n\
          |---|---|---|---|---|---|---|---|",
-        counted.len() - over.len(),
-        counted.len(),
-        if names.is_empty() { "is none".to_string() } else { format!("are {}", names.join(", ")) }
+        reached(measured, Group::Above),
+        reached(measured, Group::Between)
     );
-    for m in &counted {
+    for m in measured.iter().filter(|m| m.body.group != Group::Searched) {
         let answer = if m.within() { "yes" } else { "**no**" };
         let _ = writeln!(out, "{} {answer} |", m.row());
     }
     out.push('\n');
-    for m in counted.iter().filter(|m| m.body.group == Group::Above) {
+    for m in of_group(measured, Group::Above) {
         let name = m.body.name.trim_start_matches("above-");
         let _ = writeln!(out, "- `{name}`: {}.", m.body.what);
     }
     out.push('\n');
+}
+
+fn of_group(measured: &[Measured], group: Group) -> impl Iterator<Item = &Measured> {
+    measured.iter().filter(move |m| m.body.group == group)
+}
+
+/// How many bodies of a group are within the demand, and which are not.
+fn reached(measured: &[Measured], group: Group) -> String {
+    let over: Vec<String> =
+        of_group(measured, group).filter(|m| !m.within()).map(|m| format!("`{}`", m.body.name)).collect();
+    let count = of_group(measured, group).count();
+    match over.as_slice() {
+        [] => format!("all {count} are within that"),
+        _ => format!("{} of {count} are within that, and not {}", count - over.len(), over.join(" and ")),
+    }
 }
 
 /// The bodies that were searched for the largest ratio.
@@ -82,12 +92,11 @@ fn searched(out: &mut String, measured: &[Measured]) {
          Shapes of bodies with a large set, of each the numbers with the largest ratio that `bench search` found.\n\n\
          | body | nodes | equations worked on | set | check, µs | quarrel, µs | ratio |\n|---|---|---|---|---|---|---|"
     );
-    let searched = || measured.iter().filter(|m| m.body.group == Group::Searched);
-    for m in searched() {
+    for m in of_group(measured, Group::Searched) {
         let _ = writeln!(out, "{}", m.row());
     }
     out.push('\n');
-    for m in searched() {
+    for m in of_group(measured, Group::Searched) {
         let _ = writeln!(out, "- `{}`: {}.", m.body.name, m.body.what);
     }
     let _ = writeln!(

@@ -1,7 +1,7 @@
 //! Shapes of bodies with a large minimal conflict, each with two numbers that are searched for the largest ratio of
 //! `nunthila_quarrel` to `nunthila_check`.
 use super::draft::{I32, Node, Row, U64};
-use super::statements::{ITEMS, NODES, Statements};
+use super::statements::{ITEMS, Statements};
 
 pub struct Shape {
     pub name: &'static str,
@@ -38,7 +38,7 @@ pub const ALL: &[Shape] = &[
         what: "sums within sums of literals, two nodes for an equation; every equation is needed",
         make: |depth, _| chain_of_sums(depth),
         tried: (&[4, 8, 16, 32, 56], NO),
-        kept: (56, 0),
+        kept: (32, 0),
     },
     Shape {
         name: "chain-calls",
@@ -66,42 +66,42 @@ pub const ALL: &[Shape] = &[
         what: "the same between two arrays, of which one is one level deeper",
         make: chain_between_arrays,
         tried: (ALONE, ROWS),
-        kept: (28, 500),
+        kept: (28, 200),
     },
     Shape {
         name: "and-variables",
         what: "a chain of calls, and empty lists, each of which draws a variable",
         make: |calls, _| chain_and_lists(calls, 0, |_| (Node::List(vec![]), Node::List(vec![]))),
         tried: (CALLS, NO),
-        kept: (20, 0),
+        kept: (25, 0),
     },
     Shape {
         name: "and-returns",
         what: "a chain of calls, and lists of `return`, each of which raises two equations",
         make: |calls, _| chain_and_lists(calls, 0, |value| (Node::Local(value), Node::Return(None))),
         tried: (CALLS, NO),
-        kept: (20, 0),
+        kept: (25, 0),
     },
     Shape {
         name: "and-arrays",
         what: "a chain of calls, and lists of arrays",
         make: |calls, rows| chain_and_lists(calls, rows, |value| (Node::Local(value), Node::Local(value))),
         tried: (CALLS, ROWS),
-        kept: (16, 500),
+        kept: (25, 50),
     },
     Shape {
         name: "and-chain",
         what: "a chain of calls, and literals that are bound one to the next from the last equation back alone",
         make: |calls, _| chain_and_chain(calls, usize::MAX, End::Refused),
         tried: (CALLS, NO),
-        kept: (12, 0),
+        kept: (14, 0),
     },
     Shape {
         name: "and-pairs-deep",
         what: "a chain of calls, and equations of two variables that lead along it to one array, from the last equation back alone",
         make: chain_and_arrays,
         tried: (CALLS, ROWS),
-        kept: (18, 200),
+        kept: (20, 50),
     },
     Shape {
         name: "and-pairs",
@@ -266,27 +266,76 @@ fn inside(s: &mut Statements) {
     s.assign(variable, Node::List(vec![item]));
 }
 
-/// A chain of calls between two arrays of which one is a level deeper. Two variables `y` and `u` are set against each other again and
-/// again: before they are joined to the chain for the check, and behind it from the last equation back.
+/// A chain of calls between two arrays of which one is a level deeper. In all other nodes two variables are set against each other:
+/// the check has them so before they are joined to the chain, and from the last equation back they are joined to it first.
 fn chain_and_arrays(count: usize, rows: usize) -> Vec<u8> {
     let mut s = Statements::new();
     let types = arrays(&mut s, rows);
     let (deep, less) = (s.param(types[rows]), s.param(types[rows - 1]));
-    let (y, u) = (s.variable(), s.variable());
+    let (one, other) = (s.variable(), s.variable());
     let chain = calls(&mut s, count, |_, _| None);
     let free = s.free() - 4 * 3 - INSIDE;
-    s.lists(free, Node::Local(y), Node::Local(u));
-    s.join(u, chain.first);
-    s.join(y, chain.first);
+    s.lists(free, Node::Local(one), Node::Local(other));
+    s.join(other, chain.first);
+    s.join(one, chain.first);
     s.join(chain.first, deep);
     s.join(chain.last, less);
     inside(&mut s);
     s.finish()
 }
 
+/// A chain of calls between i32 and a boolean. i32 is its first variable's by an equation before it, which is dropped, and by one
+/// behind it.
+///
+/// - Behind that one the variable is set against so many literals, or as many as have room. The check binds each of them to i32; from
+///   the last equation back they are bound one to the next, at the end of what is kept of the chain.
+/// - Before it, in all other nodes, `long` is set against `short`. The check has `long` bound to `short`; from the last equation back
+///   `long` leads along the chain and the literals, and `short` along the literals.
+fn chain_and_chain(count: usize, literals: usize, end: End) -> Vec<u8> {
+    let mut s = Statements::new();
+    let (long, short, start) = (s.variable(), literal(&mut s), literal(&mut s));
+    let value = s.param(I32);
+    let chain = calls(&mut s, count, |s, first| assigned(s, first, value));
+    let room = s.free() - 2 * 3 - if end == End::Refused { INSIDE } else { 0 };
+    let bound = bound_literals(value, start, literals.min(items_of_lists(room - ONE_ITEM) - 2));
+    let rest = items_of_lists(room - nodes_of_lists(bound.len()));
+    let mut pairs = vec![Node::Local(short); rest - 1];
+    pairs.push(Node::Local(chain.first));
+    lists_of(&mut s, Node::Local(long), &pairs);
+    s.join(short, start);
+    lists_of(&mut s, Node::Local(chain.first), &bound);
+    s.assign(chain.last, Node::Bool);
+    if end == End::Refused {
+        inside(&mut s);
+    }
+    s.finish()
+}
+
+/// `let x = 1;`
+fn literal(s: &mut Statements) -> usize {
+    let int = s.emit(Node::Int);
+    s.state(Node::Let(None, Some(int)))
+}
+
+/// i32, so many literals, and a let of one, where they begin if they are bound from the last one back.
+fn bound_literals(value: usize, start: usize, count: usize) -> Vec<Node> {
+    let mut items = vec![Node::Local(value)];
+    items.extend(vec![Node::Int; count]);
+    items.push(Node::Local(start));
+    items
+}
+
+/// Nodes of a list of two.
+const ONE_ITEM: usize = 3;
+
 /// Nodes of lists with so many items behind their first.
 fn nodes_of_lists(items: usize) -> usize {
     items + 2 * items.div_ceil(ITEMS - 1)
+}
+
+/// How many items have room behind the first ones of lists of so many nodes.
+fn items_of_lists(nodes: usize) -> usize {
+    nodes / (ITEMS + 1) * (ITEMS - 1) + (nodes % (ITEMS + 1)).saturating_sub(2)
 }
 
 /// Lists of these items, each behind a first one.
@@ -294,37 +343,4 @@ fn lists_of(s: &mut Statements, first: Node, items: &[Node]) {
     for part in items.chunks(ITEMS - 1) {
         s.list(&first, part);
     }
-}
-
-/// A chain of calls between i32 and a boolean. i32 is its first variable's by an equation before it, which is dropped, and by one
-/// behind it.
-///
-/// - Behind that one the variable is set against as many literals, or as have room. The check binds each of them to i32; from the last
-///   equation back they are bound one to the next, at the end of what is kept of the chain.
-/// - Before it, in all other nodes, `y` is set against `u`. The check has `y` bound to `u`; from the last equation back `y` leads
-///   along the chain and the literals, and `u` along the literals.
-fn chain_and_chain(count: usize, literals: usize, end: End) -> Vec<u8> {
-    let mut s = Statements::new();
-    let (y, one, other) = (s.variable(), s.emit(Node::Int), s.emit(Node::Int));
-    let (u, t) = (s.state(Node::Let(None, Some(one))), s.state(Node::Let(None, Some(other))));
-    let value = s.param(I32);
-    let chain = calls(&mut s, count, |s, first| assigned(s, first, value));
-    let tail = 3 + 3 + if end == End::Refused { INSIDE } else { 0 };
-    let room = s.free() - tail;
-    // Behind the literals one of them is a let, so that `u` is joined to where they begin.
-    let most = (0..NODES).rev().find(|n| nodes_of_lists(n + 2) + 4 <= room).expect("room");
-    let mut grown = vec![Node::Int; literals.min(most)];
-    grown.insert(0, Node::Local(value));
-    grown.push(Node::Local(t));
-    let room = room - nodes_of_lists(grown.len());
-    let mut pairs = vec![Node::Local(u); (0..NODES).rev().find(|n| nodes_of_lists(n + 1) <= room).unwrap_or(0)];
-    pairs.push(Node::Local(chain.first));
-    lists_of(&mut s, Node::Local(y), &pairs);
-    s.join(u, t);
-    lists_of(&mut s, Node::Local(chain.first), &grown);
-    s.assign(chain.last, Node::Bool);
-    if end == End::Refused {
-        inside(&mut s);
-    }
-    s.finish()
 }
