@@ -11,14 +11,15 @@ use lib.ListN.{length, set, length-set, replicate, List·getD-eq-default}
 use lib.Seq.{getD-set-same, getD-set-other}
 use lib.Dec.{ltb, eqb}
 use borrow.Author.Tests.{lt-ltb, le-ltb, lt-leb, ne-eqb}
-use Rattle.theory.specs.Rules.{Shape, Out, success, mismatch, refused12, refused13, dry, Mem, Pair, Res, onward, row}
+use Rattle.theory.specs.Rules.{base, nil, Shape, Out, success, mismatch, refused12, refused13, dry, Mem, Pair, Res, onward, row}
 use Rattle.theory.specs.Program.{clip}
 use Rattle.theory.specs.Solve.{solves}
-use Rattle.theory.specs.Basics.{clash}
+use Rattle.theory.specs.Basics.{clash, and-both}
 use Rattle.type_table.specs.declared.Counts.{Counts}
 use Rattle.type_table.specs.declared.TypeId.{TypeId}
 use Rattle.type_table.specs.Memory.{pick, tab, cells, most-types, most-vars, cell, kindAt, kindsOf, bindingAt, markAt, bindsOf, marksOf, memOf}
 use Rattle.type_table.specs.Memory.{headAt, numberAt, outputAt, firstAt, countAt, inputsFrom, shapeOf}
+use Rattle.type_table.specs.Tables.{length-rows}
 use Rattle.type_table.specs.Frames.{rows-low, kinds-kept}
 use Rattle.type_table.specs.Heads.{head-low, shape-cases, row-by}
 use Rattle.record.specs.Own.{log-at}
@@ -270,6 +271,38 @@ sides-yes rows p x y r e d k l = rw (← e, ← d, ← k) l
 pub sides-no : (rows : List Shape) (p : Pair) (x : ℕ) → x ≡ p .0 → false ≡ isPlain rows x → false ≡ arePlain rows p
 unfolding arePlain
 sides-no rows p x e k = rw (← e, ← k) refl
+
+-- what is no row is plain
+pub past-plain : (m : List ℕ) (c : Counts) (x : ℕ) → c .types ≤ x → isPlain (rowsIn m c) x ≡ true
+unfolding isPlain plainIn
+past-plain m c x h = rw (List·getD-eq-default (rowsIn m c) (base nil) {n = x} (omega (arith, h, length-rows m (c .types)))) refl
+
+-- the sides are plain, so is the expected one
+pub expected-of : (rows : List Shape) (p : Pair) → arePlain rows p ≡ true → isPlain rows (p .0) ≡ true
+unfolding arePlain
+expected-of rows p e = and-both (isPlain rows (p .0)) _ e .0
+
+module _ (m : List ℕ) (c : Counts) (n : ℕ) where
+  -- the row `known` is plain, and the first i equations have plain sides, if there are so few rows
+  abbrev pub Tested : ℕ → ℕ → Type 0
+  Tested known i = c .types ≤ 65535 → (isPlain (rowsIn m c) known ≡ true) × (plainTo m c n ≡ allFrom (λ j. arePlain (rowsIn m c) (pairIn m c j)) i (n - i))
+
+  pub tested-start : Tested 65535 0
+  tested-start h = (past-plain m c 65535 h, plains-start m c n)
+
+  module _ (known i : ℕ) (t : Tested known i) (less : i < n) where
+    pub tested-on : (x : ℕ) → x ≡ (pairIn m c i) .0 → (isPlain (rowsIn m c) known ≡ true → true ≡ arePlain (rowsIn m c) (pairIn m c i)) → Tested x (i + 1)
+    tested-on x e f h = let g = t h in let p = sym (f (g .0)) in (rw e (expected-of (rowsIn m c) (pairIn m c i) p), g .1 ∙ all-on (λ j. arePlain (rowsIn m c) (pairIn m c j)) i n less p)
+
+    pub tested-stop : (isPlain (rowsIn m c) known ≡ true → false ≡ arePlain (rowsIn m c) (pairIn m c i)) → c .types ≤ 65535 → false ≡ plainTo m c n
+    tested-stop f h = let g = t h in sym (g .1 ∙ all-stop (λ j. arePlain (rowsIn m c) (pairIn m c j)) i n less (sym (f (g .0))))
+
+  pub tested-end : (known i : ℕ) → Tested known i → n ≤ i → c .types ≤ 65535 → true ≡ plainTo m c n
+  tested-end known i t l h = sym (t h .1 ∙ all-end (λ j. arePlain (rowsIn m c) (pairIn m c j)) i n l)
+
+-- a row that is known to be plain
+pub known-yes : (rows : List Shape) (x known : ℕ) → x ≡ known → isPlain rows known ≡ true → true ≡ isPlain rows x
+known-yes rows x known e k = rw e (sym k)
 
 pub reopened-turn : (m₀ m m₁ m₂ : List ℕ) (v : ℕ) → m ≡ reopened m₀ v → m₁ ≡ set m (v * 5 + 2) 0 → m₂ ≡ set m₁ (v * 5 + 4) 0 → m₂ ≡ reopened m₀ (v + 1)
 reopened-turn m₀ m m₁ m₂ v e p q = rw (q, p, e) (reopened-on m₀ v)

@@ -115,14 +115,18 @@ unfolding workedIn
 worked-most m q = omega (arith, first-most (λ i. isFailed (cell m (log-at + i * 3 + 2))) 0 q)
 
 module _ (m : List ℕ) (c : Counts) (q n : ℕ) (l : Lines) (x : List ℕ) (e : n ≡ workedIn m q) where
+  -- there are so few rows
+  few : Whole m c → c .types ≤ 65535
+  few h = omega (arith, h .types)
+
   pub conflict-none : (r : Outcome) (y : List ℕ) → n ≡ 0 → told r y ≡ toldOf none x → ConflictBy m c q l x m r y
   unfolding conflictText
   conflict-none r y z t = record { by = λ h k. (kept-self m c, rw (← e, z) t) }
 
-  pub conflict-rough : (r : Outcome) (y : List ℕ) → n ≢ 0 → false ≡ plainTo m c n → told r y ≡ toldOf none x → ConflictBy m c q l x m r y
+  pub conflict-rough : (r : Outcome) (y : List ℕ) → n ≢ 0 → (c .types ≤ 65535 → false ≡ plainTo m c n) → told r y ≡ toldOf none x → ConflictBy m c q l x m r y
   unfolding conflictText
-  conflict-rough r y z p t = record { by = λ h k. (kept-self m c, rw (← e, ne-eqb n 0 z, ← p) t) }
+  conflict-rough r y z p t = record { by = λ h k. let q = p (few h) in (kept-self m c, rw (← e, ne-eqb n 0 z, ← q) t) }
 
-  pub conflict-put : (w : List ℕ) (r : Outcome) (y : List ℕ) → n ≢ 0 → true ≡ plainTo m c n → ConflictPut m c n l x w r y → ConflictBy m c q l x w r y
+  pub conflict-put : (w : List ℕ) (r : Outcome) (y : List ℕ) → n ≢ 0 → (c .types ≤ 65535 → true ≡ plainTo m c n) → ConflictPut m c n l x w r y → ConflictBy m c q l x w r y
   unfolding conflictText
-  conflict-put w r y z p t = record { by = λ h b. let k = worked-most m q in let g = t .by h (omega arith) in (g .0, rw (← e, ne-eqb n 0 z, ← p) (g .1)) }
+  conflict-put w r y z p t = record { by = λ h b. let k = worked-most m q in let g = t .by h (omega arith) in let d = p (few h) in (g .0, rw (← e, ne-eqb n 0 z, ← d) (g .1)) }

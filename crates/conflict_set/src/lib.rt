@@ -1,6 +1,7 @@
 // The minimal conflict among the equations of a walk (document 02 f), over the memory of the walk: its types, its variables and its log. The
 // bindings and marks of the walk are lost; nothing else in the memory changes, so no second memory is needed.
 ghost use mathlib.Core.Path.{_≡_};
+ghost use mathlib.Core.Bool.{true};
 ghost use mathlib.Core.Option.{none};
 ghost use Prim.Native.Nat.{_+_, _-_, _*_, _≤_, _<_};
 ghost use lib.Dec.{ltb};
@@ -27,6 +28,9 @@ use unify::Answer;
 
 // The most equations of a body.
 pub const MOST_EQUATIONS: usize = 2048;
+
+// The number of no row: there are fewer.
+const NO_ROW: u16 = 65535;
 
 // ── the log ──
 
@@ -137,25 +141,39 @@ fn got_plain(m: &[u16], c: Counts, y: TypeId) -> bool
     is_plain(m, c, y)
 }
 
-// Whether the sides of the equation i are plain, Diverges as got side excepted.
-fn sides_plain(m: &[u16], c: Counts, i: u16) -> bool
-    ensures { λ r. ⌜ r ≡ arePlain (rowsIn (now (m .entry)) c) (pairIn (now (m .entry)) c i) ⌝ }
+// Whether the row x is plain, where the row `known` is: a list has one row against all of its elements.
+fn expected_plain(m: &[u16], c: Counts, x: TypeId, known: u16) -> bool
+    ensures { λ r. ⌜ (isPlain (rowsIn (now (m .entry)) c) known ≡ true → r ≡ isPlain (rowsIn (now (m .entry)) c) (x .0)) ⌝ }
+{
+    let y = x.0;
+    if y == known {
+        return true;
+    }
+    is_plain(m, c, x)
+}
+
+// Whether the sides of the equation i are plain, Diverges as got side excepted, where the row `known` is plain.
+fn sides_plain(m: &[u16], c: Counts, i: u16, known: u16) -> bool
+    ensures { λ r. ⌜ (isPlain (rowsIn (now (m .entry)) c) known ≡ true → r ≡ arePlain (rowsIn (now (m .entry)) c) (pairIn (now (m .entry)) c i)) ⌝ }
 {
     let x = expected(m, c, i);
     let y = got(m, c, i);
-    if is_plain(m, c, x) {
+    if expected_plain(m, c, x, known) {
         return got_plain(m, c, y);
     }
     false
 }
 
-// Whether those of the first n are.
+// Whether those of the first n are. What is no row is Nil, which is plain.
 fn all_plain(m: &[u16], c: Counts, n: u16) -> bool
-    ensures { λ r. ⌜ r ≡ plainTo (now (m .entry)) c n ⌝ }
+    ensures { λ r. ⌜ (c .types ≤ 65535 → r ≡ plainTo (now (m .entry)) c n) ⌝ }
 {
+    let mut known = NO_ROW;
     let mut i = 0;
     while i < n {
-        if sides_plain(m, c, i) {
+        if sides_plain(m, c, i, known) {
+            let x = expected(m, c, i);
+            known = x.0;
             i += 1;
         } else {
             return false;
