@@ -1,7 +1,6 @@
 use borrow.Author.Needs.{needs}
 use Prim.Native.Nat.{_-_, _≤_}
-use mathlib.Core.Path.{_≡_, refl, _∙_}
-use mathlib.Core.Path.{subst}
+use mathlib.Core.Path.{_≡_, refl, subst, _∙_}
 use lib.ListN.{length}
 use Rattle.conflict_set.specs.Laws.{Goes, goes-start, goes-on, goes-stop, goes-end}
 use Rattle.conflict_set.specs.In.{AddedBy}
