@@ -75,8 +75,8 @@ const KINDS: [(Kind, &str, &str); 7] = [
     (
         Kind::Diverging(500),
         "diverging",
-        "`break` in lists that begin with an array 500 deep: the check meets Diverges at once, and whether the other side is plain \
-         takes 500 steps for each equation",
+        "`break` in lists that begin with an array 500 deep: the check meets Diverges at once; the array is asked for whether it is \
+         plain, once for all equations of a list",
     ),
 ];
 
