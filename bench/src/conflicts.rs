@@ -3,7 +3,7 @@ use crate::bodies::NODES;
 use crate::bodies::conflicts::{self, Conflict};
 use crate::bodies::shapes::{self, Shape};
 use crate::measure::{Clock, Figure, Series, measure, timed};
-use crate::tool::Tool;
+use crate::ours::Tables;
 use crate::{LONG, TURNS_ADVERSARIAL};
 use std::cell::RefCell;
 use std::time::Duration;
@@ -24,10 +24,10 @@ pub struct Measured {
 
 /// All bodies, each after its answer and set were compared.
 pub fn measured() -> Result<Vec<Measured>, String> {
-    let mut tool = Tool::new();
+    let mut tables = Tables::new();
     let one = |body: Conflict| {
-        let (equations, set) = agree(&body.name, &body.bytes, &mut tool)?;
-        let (check, quarrel) = both(&body.bytes, &mut tool);
+        let (equations, set) = agree(&body.name, &body.bytes, &mut tables)?;
+        let (check, quarrel) = both(&body.bytes, &mut tables);
         eprintln!("{}: {equations} equations, set of {set}, {:.1} times", body.name, quarrel.median / check.median);
         Ok(Measured { body, nodes: NODES, equations, set, check, quarrel })
     };
@@ -35,28 +35,28 @@ pub fn measured() -> Result<Vec<Measured>, String> {
 }
 
 /// Compares answer and lines with those of the rules' program; how many equations there are, and how many are left.
-fn agree(name: &str, bytes: &[u8], tool: &mut Tool) -> Result<(usize, usize), String> {
+fn agree(name: &str, bytes: &[u8], tables: &mut Tables) -> Result<(usize, usize), String> {
     assert_eq!(body::read(bytes).map(|b| b.nodes.len()), Ok(NODES));
     let found = quarrel::find(bytes).map_err(|r| format!("{name}: the rules' program answers {}", r.answer))?;
     let text: String = found.conflict.iter().map(|number| format!("equation={number}\n")).collect();
-    if tool.text(bytes) != (0, text) {
+    if tables.conflict(bytes) != (0, text) {
         return Err(format!("{name}: not the answer and the set of the rules' program"));
     }
     Ok((found.equations.len(), found.conflict.len()))
 }
 
 /// The times of both functions, taken in turns.
-fn both(bytes: &[u8], tool: &mut Tool) -> (Figure, Figure) {
-    let long = timed(Clock::Thread, || tool.quarrel(bytes)) > LONG;
-    let tool = RefCell::new(tool);
+fn both(bytes: &[u8], tables: &mut Tables) -> (Figure, Figure) {
+    let long = timed(Clock::Thread, || tables.quarrel(bytes)) > LONG;
+    let tables = RefCell::new(tables);
     let mut series: [Series; 2] = [
         Box::new(|_, clock| {
-            let mut tool = tool.borrow_mut();
-            timed(clock, || tool.check(bytes))
+            let mut tables = tables.borrow_mut();
+            timed(clock, || tables.check(bytes))
         }),
         Box::new(|_, clock| {
-            let mut tool = tool.borrow_mut();
-            timed(clock, || tool.quarrel(bytes))
+            let mut tables = tables.borrow_mut();
+            timed(clock, || tables.quarrel(bytes))
         }),
     ];
     let figures = measure(&mut series, 1, if long { TURNS_LONG } else { TURNS_ADVERSARIAL });
@@ -82,11 +82,11 @@ impl Least {
         Least { numbers, bytes, check: Duration::MAX, quarrel: Duration::MAX }
     }
 
-    fn round(&mut self, tool: &mut Tool) {
+    fn round(&mut self, tables: &mut Tables) {
         for _ in 0..CHECKS {
-            self.check = self.check.min(timed(Clock::Thread, || tool.check(&self.bytes)));
+            self.check = self.check.min(timed(Clock::Thread, || tables.check(&self.bytes)));
         }
-        self.quarrel = self.quarrel.min(timed(Clock::Thread, || assert_eq!(tool.quarrel(&self.bytes), 0)));
+        self.quarrel = self.quarrel.min(timed(Clock::Thread, || assert_eq!(tables.quarrel(&self.bytes), 0)));
     }
 
     fn ratio(&self) -> f64 {
@@ -96,13 +96,13 @@ impl Least {
 
 /// Goes through the shapes, or through the one of this name: the ratio for each pair of numbers, the largest last.
 pub fn search(name: Option<&str>) {
-    let mut tool = Tool::new();
+    let mut tables = Tables::new();
     for shape in shapes::ALL.iter().filter(|shape| name.is_none_or(|name| name == shape.name)) {
         let (first, second) = shape.tried;
         let numbers = first.iter().flat_map(|first| second.iter().map(move |second| (*first, *second)));
         let mut tried: Vec<Least> = numbers.map(|numbers| Least::new(shape, numbers)).collect();
         for _ in 0..ROUNDS {
-            tried.iter_mut().for_each(|one| one.round(&mut tool));
+            tried.iter_mut().for_each(|one| one.round(&mut tables));
         }
         tried.sort_by(|a, b| a.ratio().total_cmp(&b.ratio()));
         for one in &tried {

@@ -8,7 +8,6 @@ mod ours;
 mod plot;
 mod section;
 mod speed;
-mod tool;
 
 use agree::Original;
 use measure::{Clock, Figure, Series, measure, timed};

@@ -1,5 +1,5 @@
 //! The static library through its wrapper: the tables are lent once and used again by each call.
-use nunthila::{Checker, ErrorRow, Lengths};
+use nunthila::{Checker, ErrorRow, Lengths, Lines};
 
 /// Bytes of the lent output: as many as `typereport` lends.
 pub const OUTPUT: usize = 65_536;
@@ -56,6 +56,19 @@ impl Tables {
     #[inline]
     pub fn report(&mut self, s: &[u8]) -> usize {
         self.checker.report(s, &mut self.output).answer()
+    }
+
+    /// From bytes to the lines `equation=N` of the minimal conflict.
+    #[inline]
+    pub fn quarrel(&mut self, s: &[u8]) -> usize {
+        self.checker.quarrel(s, &mut self.output, Lines::Numbers).answer()
+    }
+
+    /// The answer of the tool, and its text.
+    pub fn conflict(&mut self, s: &[u8]) -> (usize, String) {
+        let quarreled = self.checker.quarrel(s, &mut self.output, Lines::Numbers);
+        let length = quarreled.length().unwrap_or(0);
+        (quarreled.answer(), String::from_utf8_lossy(&self.output[..length]).into_owned())
     }
 
     /// The report's text. The output has 65,536 bytes, or more where the text is longer, until the next call.
