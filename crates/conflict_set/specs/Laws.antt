@@ -26,7 +26,7 @@ use Rattle.record.specs.Own.{log-at}
 use Rattle.unify.specs.Promise.{rowsIn, kindsIn, memIn, heldIn, solveIn, answerIs, Solved}
 use Rattle.unify.specs.declared.Answer.{Answer}
 use Rattle.conflict_theory.specs.Test.{isSuccess, blank, unified}
-use Rattle.conflict_theory.specs.Code.{fallOn, keepIn, added, falls, scanIn}
+use Rattle.conflict_theory.specs.Code.{onward-success, fallOn, keepIn, added, falls, scanIn}
 use Rattle.conflict_theory.specs.Plains.{plainShape, isDiverges, plainIn, isPlain, arePlain}
 use Rattle.conflict_set.specs.declared.Stop.{Stop}
 use Rattle.conflict_set.specs.declared.Stop.the-variants as stop
@@ -332,13 +332,6 @@ module _ (m₀ : List ℕ) (c : Counts) (h : Whole m₀ c) (m : List ℕ) (k : K
   later-memory : memIn w c ≡ later .1
   later-memory = told .memory ∙ ap (λ (x : Res). x .1) later-is
 
-onward-yes : (o : Out) (m : Mem) (f : Mem → Res) → true ≡ isSuccess o → onward o m f ≡ f m
-onward-yes success m f e = refl
-onward-yes mismatch m f e = clash (cc)
-onward-yes refused12 m f e = clash (cc)
-onward-yes refused13 m f e = clash (cc)
-onward-yes dry m f e = clash (cc)
-
 onward-no : (o : Out) (m : Mem) (f : Mem → Res) → false ≡ isSuccess o → onward o m f ≡ (o, m)
 onward-no success m f e = clash (cc)
 onward-no mismatch m f e = refl
@@ -370,7 +363,7 @@ module _ (m₀ : List ℕ) (c : Counts) (s : List ℕ) (k : ℕ) where
         let l = later m₀ c h m (x .kept) q w true a in
         record {
           kept = later-kept m₀ c h m (x .kept) q w true a;
-          same = rw (later-memory m₀ c h m (x .kept) q w true a) (sym (onward-yes (l .0) (l .1) (λ m′. solves (rowsIn m₀ c) (kindsIn m₀ c) (map (pairIn m₀ c) (cellsFrom s (i + 1) (k - (i + 1)))) m′) (later-answer m₀ c h m (x .kept) q w true a)) ∙ x .same);
+          same = rw (later-memory m₀ c h m (x .kept) q w true a) (sym (onward-success (l .0) (l .1) (λ m′. solves (rowsIn m₀ c) (kindsIn m₀ c) (map (pairIn m₀ c) (cellsFrom s (i + 1) (k - (i + 1)))) m′) (sym (later-answer m₀ c h m (x .kept) q w true a))) ∙ x .same);
         }
 
     pub goes-stop : AddedBy m c q w false → AllAddedBy m₀ c list w false

@@ -73,7 +73,8 @@ onward-same refused12 m f g e = refl
 onward-same refused13 m f g e = refl
 onward-same dry m f g e = refl
 
-onward-success : (o : Out) (m : Mem) (f : Mem → Res) → isSuccess o ≡ true → onward o m f ≡ f m
+-- what follows a success
+pub onward-success : (o : Out) (m : Mem) (f : Mem → Res) → isSuccess o ≡ true → onward o m f ≡ f m
 onward-success success m f e = refl
 onward-success mismatch m f e = cc
 onward-success refused12 m f e = cc
