@@ -1,31 +1,52 @@
--- What is claimed of request f), one citation each: of the log of any walk, whatever it walks over. Start here. Each assumption is an argument of the statement.
--- `Solvable` and `Unsolvable`, `Left` and `Minimal` are in Deletion: none of them runs a checker. `conflictOf`, the set that the tool's promise names, is in Worked.
+-- What is claimed of requests f) and n), one citation each: of the log of any walk, whatever it walks over. Start here. Each assumption is an argument of the statement.
+-- `Solvable` and `Unsolvable`, `Left` and `Minimal` are in Deletion, `Goes` and `Below` in Search, `Shortest` in Shortest, `NoneFails` and `AllMet` in CommonSolution: none of
+-- them runs a checker. `conflictOf`, the set that f)'s promise names, is in Worked; `shortestOf`, the answer that n)'s names, in Shortest.
 use mathlib.Core.Path.{_≡_, refl, sym, subst, _∙_}
-use mathlib.Core.List.{List, []}
+use mathlib.Core.Logic.{_↔_}
+use mathlib.Core.List.{List, [], _∷_, map}
 use mathlib.Core.Option.{Option, some}
 use mathlib.Core.Bool.{true, false}
-use Prim.Native.Nat.{ℕ, suc, zero, _-_, _<_}
+use Prim.Native.Nat.{ℕ, _-_, _<_}
 use native.Mathlib.Omega.{arith}
 use lib.ListN.{length}
-use Rattle.theory.specs.Rules.{Shape, Kind, Pair}
+use Rattle.theory.specs.Rules.{nil, double, int, w64, Shape, Kind, regular, integer, floating, Pair, kind}
 use Rattle.theory.specs.Program.{Equation, Prog, run}
 use Rattle.theory.specs.Basics.{All, all-map2}
-use Rattle.theory.specs.Ways.{Way, Kinded, Inside}
+use Rattle.theory.specs.Ways.{Ty, basic, Way, tyFits, Kinded, Inside, Sided}
 use Rattle.theory.specs.Demand.{Claim}
 use Rattle.theory.specs.Start.{start}
 use Rattle.theory.specs.Solve.{Posed, Solves}
+use Rattle.conflict_theory.specs.Sets.{Part}
 use Rattle.conflict_theory.specs.Deletion.{Solvable, Unsolvable, Left, Minimal, left-minimal, left-one, leave-left}
 use Rattle.conflict_theory.specs.Scan.{scan, scan-left}
-use Rattle.conflict_theory.specs.Code.{scanIn, scan-same}
-use Rattle.conflict_theory.specs.Test.{Sound, MeetsAt, ok, ok-yes, ok-no}
-use Rattle.conflict_theory.specs.Worked.{untilFailed, inOrder, sidesAt, numbers, from, PlainPair, plain-sided, conflictOf, None13, order-all, each-at, from-below, untilFailed-part, worked-none}
+use Rattle.conflict_theory.specs.Code.{scanIn, searchIn, scan-same, search-same}
+use Rattle.conflict_theory.specs.Subsets.{Picks, picks-part, from-distinct, from-length, picks-length}
+use Rattle.conflict_theory.specs.Search.{search-agree}
+use Rattle.conflict_theory.specs.Shortest.{shortestOf, left-picks, Shortest, search-shortest}
+use Rattle.conflict_theory.specs.CommonSolution.{NoneFails, AllMet, none-fails-exactly}
+use Rattle.conflict_theory.specs.Test.{Sound, MeetsAt, unified, ok, ok-yes, ok-no}
+use Rattle.conflict_theory.specs.Worked.{untilFailed, inOrder, sidesAt, numbers, PlainPair, plain-sided, conflictOf, None13, order-all, each-at, from-below, untilFailed-part, worked-none}
 use Rattle.conflict_theory.specs.Thirteen.{ZeroOr12}
 use Rattle.conflict_theory.specs.Thirteen as thirteen
 
-from-length : (a n : ℕ) → length (from a n) ≡ n
-unfolding from
-from-length a zero = refl
-from-length a (suc n) = let h = from-length (suc a) n in omega (arith, h)
+-- a type of a kind
+abbrev typeOf : Kind → Ty
+typeOf regular = basic nil
+typeOf integer = basic (int w64)
+typeOf floating = basic double
+
+type-fits : (k : Kind) → tyFits k (typeOf k) ≡ true
+type-fits regular = refl
+type-fits integer = refl
+type-fits floating = refl
+
+not-empty : (kinds : List Kind) (M : Way → ℕ → Type 0) (r : List ℕ) → Unsolvable (Kinded kinds) M r → 0 < length r
+not-empty kinds M [] u = absurd (u (λ v. typeOf (kind kinds v), λ v. type-fits (kind kinds v), tt))
+not-empty kinds M (i ∷ r) u = omega arith
+
+map-same : {A B : Type 0} (R : A → Type 0) (f g : A → B) → ((i : A) → R i → f i ≡ g i) → (l : List A) → All R l → map f l ≡ map g l
+map-same R f g e [] h = refl
+map-same R f g e (i ∷ l) h = rw (e i (h .0), map-same R f g e l (h .1)) refl
 
 -- of a walk that is answered 0 or 12, no equation was refused 13
 pub none-13 : {X Er A : Type 0} (rows : List Shape) (own : X) (p : Prog X Er A) → ZeroOr12 ((run p (start rows own)) .1 .stop) → None13 ((run p (start rows own)) .1 .log)
@@ -100,3 +121,40 @@ module _ (rows : List Shape) (kinds : List Kind) (b : List (Option ℕ)) (log : 
       let z : length equations - 0 ≡ length equations = omega arith in
       (rw z at (scan-same rows kinds at (Kinded kinds) Met Numbered (test-yes at agrees) (test-no at agrees) (length equations) (length equations) [] 0 (omega arith) (rw z all-numbered)))
       ∙ conflict-only (scan (ok rows kinds at) (length equations) [] all) (scan-left (ok rows kinds at) (Kinded kinds) Met Numbered (test-yes at agrees) (test-no at agrees) (length equations) [] all (omega (arith, from-length 0 (length equations))) all-numbered all-none)
+
+  -- ── n ──
+
+  -- f)'s set, a subset of theirs
+  abbrev conflict : List ℕ
+  conflict = conflictOf rows kinds equations
+
+  picked : (t : List ℕ) × (conflict ≡ t) × Picks t all
+  picked = left-picks (Kinded kinds) Met [] all conflict conflict-left
+
+  conflict-picked : Picks conflict all
+  conflict-picked = rw (picked .1) (picked .2)
+
+  -- n)'s answer and `below=`, by ways: which subsets are tested, "the first unsolvable one, else f)'s set", and all that the request says of the two numbers
+  pub shortest-is : (n : ℕ) → Shortest (Kinded kinds) Met n all conflict ((shortestOf rows kinds equations n) .0) ((shortestOf rows kinds equations n) .1)
+  unfolding shortestOf
+  shortest-is n =
+      search-shortest (ok rows kinds (sidesAt equations)) (Kinded kinds) Met Numbered (test-yes (sidesAt equations) (λ i h. refl)) (test-no (sidesAt equations) (λ i h. refl)) n all conflict all-numbered (from-distinct 0 (length equations)) conflict-picked (not-empty kinds Met conflict (conflict-minimal .none)) (conflict-minimal .none)
+
+  -- the answer's numbers are theirs
+  pub shortest-part : (n : ℕ) → Part ((shortestOf rows kinds equations n) .0) all
+  shortest-part n = picks-part ((shortestOf rows kinds equations n) .0) all (shortest-is n .picked)
+
+  same-test : (at : ℕ → Pair) → ((i : ℕ) → Numbered i → at i ≡ sidesAt equations i) → (l : List ℕ) → All Numbered l → ok rows kinds at l ≡ ok rows kinds (sidesAt equations) l
+  unfolding ok unified
+  same-test at agrees l h = rw (map-same Numbered at (sidesAt equations) agrees l h) refl
+
+  -- the search of the code, each subset made of the one before it, gives this answer
+  pub code-shortest : (at : ℕ → Pair) → ((i : ℕ) → Numbered i → at i ≡ sidesAt equations i) → (n : ℕ) → searchIn (ok rows kinds at) (length equations) 1 (length conflict - 1) n conflict ≡ shortestOf rows kinds equations n
+  unfolding shortestOf
+  code-shortest at agrees n =
+      search-same (ok rows kinds at) (length equations) (length conflict - 1) 1 n conflict (omega (arith, picks-length conflict all conflict-picked, from-length 0 (length equations)))
+      ∙ search-agree (ok rows kinds at) (ok rows kinds (sidesAt equations)) Numbered (same-test at agrees) (length conflict - 1) 1 n all conflict all-numbered
+
+-- n), last sentence, of a log with demand 3's sides: "no equation fails or is refused 12 exactly if all of them have a common solution"
+pub common-solution : (rows : List Shape) (kinds : List Kind) (b : List (Option ℕ)) (log : List Equation) → Claim rows kinds b log → None13 log → All (Sided rows) log → NoneFails log ↔ AllMet rows kinds log
+common-solution = none-fails-exactly

@@ -1,5 +1,5 @@
--- The scans of f) as the code does them: each equation is unified once on top of the bindings of those before it. They give what Scan says. Assumes the test of Scan
--- (`good`, `bad`).
+-- The scans of f) and the search of n) as the code does them: each equation is unified once on top of the bindings of those before it, and each subset is made of the one
+-- before it. They give what Scan and Search say. Assumes the test of Scan (`good`, `bad`).
 use mathlib.Core.Path.{_≡_, refl, sym, ap, _∙_}
 use mathlib.Core.Logic.{inl}
 use mathlib.Core.List.{List, [], _∷_, _++_, map, append-assoc, append-nil}
@@ -15,6 +15,8 @@ use Rattle.theory.specs.Solve.{solves}
 use Rattle.conflict_theory.specs.Sets.{In, Part, all-part, all-both, all-first, all-second, part-behind, part-later, part-first, part-on, in-right}
 use Rattle.conflict_theory.specs.Deletion.{Solvable, Unsolvable}
 use Rattle.conflict_theory.specs.Scan.{Cut, here, keep, back, scan, same-answer}
+use Rattle.conflict_theory.specs.Subsets.{subsets, next, lead, Chain, subsets-first, subsets-chain}
+use Rattle.conflict_theory.specs.Search.{Outcome, found, out, through, tested, tries, onwardTo, search}
 use Rattle.conflict_theory.specs.Test.{isSuccess, blank, unified, ok}
 use Rattle.conflict_theory.specs.Worked.{from}
 
@@ -46,7 +48,50 @@ module _ (rows : List Shape) (kinds : List Kind) (at : ℕ → Pair) where
   scanIn n zero kept lo = kept
   scanIn n (suc f) kept lo = let u = unified rows kinds at kept in let o = falls (u .1) lo (n - lo) in keepIn (scanIn n f) kept (isSuccess (u .0)) o
 
--- ── proofs ──
+-- the next subset, if there is one
+abbrev pub onNext : (List ℕ → Outcome) → ℕ → Option (List ℕ) → Outcome
+onNext g b none = through b
+onNext g b (some d) = g d
+
+module _ (ok : List ℕ → Bool) (n : ℕ) where
+  -- from one subset to the next, with so many that may be tested
+  unfoldable pub triesIn : ℕ → List ℕ → Outcome
+  triesIn zero c = out
+  triesIn (suc b) c = let r = onNext (triesIn b) b (next n c) in tested (ok c) c r
+
+  -- k sizes from s on
+  unfoldable pub searchIn : ℕ → ℕ → ℕ → List ℕ → List ℕ × ℕ
+  searchIn s zero b f = (f, s)
+  searchIn s (suc k) b f = onwardTo ok (λ c. searchIn (suc s) k c f) s f (triesIn b (from 0 s))
+
+-- ── proofs: the search ──
+
+module _ (ok : List ℕ → Bool) (n : ℕ) where
+  tries-same : (b : ℕ) (c : List ℕ) (cs : List (List ℕ)) → Chain n (c ∷ cs) none → triesIn ok n b c ≡ tries ok b (c ∷ cs)
+  unfolding triesIn tries
+  tries-same zero c cs h = refl
+  tries-same (suc b) c [] h = rw (h .0) refl
+  tries-same (suc b) c (d ∷ cs) h = rw (h .0, tries-same b d cs (h .1)) refl
+
+  tries-all : (b s : ℕ) → s ≤ n → triesIn ok n b (from 0 s) ≡ tries ok b (subsets s (from 0 n))
+  tries-all b s h = by (subsets s (from 0 n)) (subsets-chain s 0 n n (omega arith)) (subsets-first s 0 n h)
+    where
+      by : (l : List (List ℕ)) → Chain n l none → lead l none ≡ some (from 0 s) → triesIn ok n b (from 0 s) ≡ tries ok b l
+      by [] h e = clash (cc)
+      by (c ∷ l) h e = let q : c ≡ from 0 s = cc in rw (← q) (tries-same b c l h)
+
+  -- the search goes through the subsets of all numbers below n
+  pub search-same : (k s b : ℕ) (f : List ℕ) → s + k ≤ suc n → searchIn ok n s k b f ≡ search ok s k b (from 0 n) f
+  unfolding searchIn search
+  search-same zero s b f h = refl
+  search-same (suc k) s b f h = rw (tries-all b s (omega arith)) (by (tries ok b (subsets s (from 0 n))) (λ d. search-same k (suc s) d f (omega arith)))
+    where
+      by : (o : Outcome) → ((d : ℕ) → searchIn ok n (suc s) k d f ≡ search ok (suc s) k d (from 0 n) f) → onwardTo ok (λ c. searchIn ok n (suc s) k c f) s f o ≡ onwardTo ok (λ c. search ok (suc s) k c (from 0 n) f) s f o
+      by (found c) e = refl
+      by out e = refl
+      by (through d) e = e d
+
+-- ── proofs: the scans ──
 
 map-both : {A B : Type 0} (f : A → B) (a b : List A) → map f (a ++ b) ≡ map f a ++ map f b
 map-both f [] b = refl
@@ -98,6 +143,22 @@ module _ (rows : List Shape) (kinds : List Kind) (at : ℕ → Pair) where
       ap (λ ps. solves rows kinds ps (blank (length kinds))) (map-both at l (i ∷ []))
       ∙ solves-last rows kinds (map at l) (at i) (blank (length kinds))
       ∙ onward-success (u .0) (u .1) (λ m. added rows kinds at m i) e
+
+  -- what has failed the test fails it with one more
+  pub ok-stays : (l : List ℕ) (i : ℕ) → ok rows kinds at l ≡ false → ok rows kinds at (l ++ i ∷ []) ≡ false
+  unfolding unified ok
+  ok-stays l i e =
+      let u = solves rows kinds (map at l) (blank (length kinds)) in
+      ap (λ ps. isSuccess ((solves rows kinds ps (blank (length kinds))) .0)) (map-both at l (i ∷ []))
+      ∙ ap (λ (r : Res). isSuccess (r .0)) (solves-last rows kinds (map at l) (at i) (blank (length kinds)))
+      ∙ by (u .0) (u .1) e
+    where
+      by : (o : Out) (m : Mem) → isSuccess o ≡ false → isSuccess ((onward o m (λ m′. added rows kinds at m′ i)) .0) ≡ false
+      by success m e = clash (cc)
+      by mismatch m e = refl
+      by refused12 m e = refl
+      by refused13 m e = refl
+      by dry m e = refl
 
 from-both : (a d e n mid : ℕ) → n ≡ d + e → mid ≡ a + d → from a n ≡ from a d ++ from mid e
 unfolding from

@@ -6,6 +6,11 @@ pub mod Test
 pub mod Worked
 pub mod Thirteen
 pub mod Plains
+pub mod Subsets
+pub mod Search
+pub mod Shortest
+pub mod CommonSolution
 pub mod Code
+pub mod OneBound
 pub mod Claims
 pub mod Example

@@ -112,18 +112,20 @@ module _ (rows : List Shape) where
   and-true true b e d = d
   and-true false b e d = cc
 
+  -- sides that pass the test are plain, Diverges as got side excepted
+  pub sides-plain : (p : Pair) → arePlain p ≡ true → PlainPair rows p
+  unfolding arePlain isPlain
+  sides-plain p e = let h = and-both (isPlain (p .0)) (isDiverges (row rows (p .1)) || isPlain (p .1)) e in (plain-yes (suc (p .0)) (p .0) (h .0), by (or-true (isDiverges (row rows (p .1))) (isPlain (p .1)) (h .1)))
+    where
+      by : (isDiverges (row rows (p .1)) ≡ true) ⊎ (isPlain (p .1) ≡ true) → Plain rows (p .1) ⊎ (row rows (p .1) ≡ div)
+      by (inl e) = inr (diverges-is (row rows (p .1)) e)
+      by (inr e) = inl (plain-yes (suc (p .1)) (p .1) e)
+
   -- and which pairs have such sides
   pub sides-exactly : Lower rows → (p : Pair) → (arePlain p ≡ true) ↔ PlainPair rows p
   unfolding arePlain
-  sides-exactly lower p = (to, from)
+  sides-exactly lower p = (sides-plain p, from)
     where
-      got : (isDiverges (row rows (p .1)) ≡ true) ⊎ (isPlain (p .1) ≡ true) → Plain rows (p .1) ⊎ (row rows (p .1) ≡ div)
-      got (inl e) = inr (diverges-is (row rows (p .1)) e)
-      got (inr e) = inl (plain-exactly lower (p .1) .0 e)
-
-      to : (isPlain (p .0) && (isDiverges (row rows (p .1)) || isPlain (p .1))) ≡ true → PlainPair rows p
-      to e = let h = and-both (isPlain (p .0)) (isDiverges (row rows (p .1)) || isPlain (p .1)) e in (plain-exactly lower (p .0) .0 (h .0), got (or-true (isDiverges (row rows (p .1))) (isPlain (p .1)) (h .1)))
-
       back : Plain rows (p .1) ⊎ (row rows (p .1) ≡ div) → (isDiverges (row rows (p .1)) || isPlain (p .1)) ≡ true
       back (inl h) = or-right (isDiverges (row rows (p .1))) (isPlain (p .1)) (plain-exactly lower (p .1) .1 h)
       back (inr h) = or-left (isDiverges (row rows (p .1))) (isPlain (p .1)) (rw h refl)

@@ -58,16 +58,19 @@ module _ (rows : List Shape) (kinds : List Kind) (at : ℕ → Pair) where
 
 -- ── proofs ──
 
-replicate-at : {A : Type 0} (n : ℕ) (a : A) (v : ℕ) → getD (replicate n a) v a ≡ a
+-- each element
+pub replicate-at : {A : Type 0} (n : ℕ) (a : A) (v : ℕ) → getD (replicate n a) v a ≡ a
 replicate-at zero a v = refl
 replicate-at (suc n) a zero = refl
 replicate-at (suc n) a (suc v) = replicate-at n a v
 
-mapped : {A B : Type 0} (P : B → Type 0) (f : A → B) (l : List A) → All P (map f l) ↔ All (λ i. P (f i)) l
+-- of all images
+pub mapped : {A B : Type 0} (P : B → Type 0) (f : A → B) (l : List A) → All P (map f l) ↔ All (λ i. P (f i)) l
 mapped P f [] = (λ h. h, λ h. h)
 mapped P f (x ∷ l) = (λ h. (h .0, mapped P f l .0 (h .1)), λ h. (h .0, mapped P f l .1 (h .1)))
 
-success-yes : (o : Out) → isSuccess o ≡ true → o ≡ success
+-- only success passes
+pub success-yes : (o : Out) → isSuccess o ≡ true → o ≡ success
 success-yes success e = refl
 success-yes mismatch e = cc
 success-yes refused12 e = cc
@@ -81,7 +84,8 @@ not-13 refused12 h e = clash (cc)
 not-13 refused13 h e = h
 not-13 dry h e = clash (cc)
 
-blank-unmarked : (n : ℕ) → Unmarked (blank n)
+-- nothing is marked there
+pub blank-unmarked : (n : ℕ) → Unmarked (blank n)
 unfolding blank
 blank-unmarked n v = replicate-at n false v
 
