@@ -1,9 +1,9 @@
--- What is claimed of `conflict_in` over the memory in which a walk ends: its text is what request f) says of the equations that the walk raised. Start here. Each assumption
+-- What is claimed of `conflict_in` over the memory in which a walk ends: its text is what requests f) and n) say of the equations that the walk raised. Start here. Each assumption
 -- is an argument: the memory encodes the state `s` in which the walk ends and reaches over its log, demand 3's invariant holds of it (`Claim`, which `track` of crate
--- `theory` gives of every walk), no equation was refused 13 (`calm`), and each was raised at a node (`placed`). `conflictText` is what the contract says, `textOf` what f) says.
+-- `theory` gives of every walk), no equation was refused 13 (`calm`), and each was raised at a node (`placed`). `conflictText` is what the contract says, `textOf` what the requests say.
 use mathlib.Core.Path.{_≡_, refl, sym, ap, _∙_}
 use mathlib.Core.Logic.{_≢_}
-use mathlib.Core.List.{List}
+use mathlib.Core.List.{List, _++_}
 use mathlib.Core.Option.{Option, none, some}
 use mathlib.Core.Bool.{Bool, true, false, cond}
 use Prim.Native.Nat.{ℕ, _+_, _*_, _≤_, _<_}
@@ -21,14 +21,20 @@ use Rattle.record.specs.Own.{log-at}
 use Rattle.record.specs.Steps.{State}
 use Rattle.record.specs.Encodes.{Encodes}
 use Rattle.unify.specs.Promise.{rowsIn, kindsIn}
-use Rattle.conflict_theory.specs.Sets.{all-part}
+use Rattle.conflict_theory.specs.Sets.{Part, all-part}
 use Rattle.conflict_theory.specs.Deletion.{left-part}
 use Rattle.conflict_theory.specs.Worked.{untilFailed, inOrder, nodesInOrder, sidesAt, numbers, PlainPair, conflictOf, None13, untilFailed-part, from-below}
 use Rattle.conflict_theory.specs.Plains.{arePlain, allPlain, all-exactly}
+use Rattle.conflict_theory.specs.Shortest.{shortestOf}
 use Rattle.conflict_theory.specs.Claims as theory
+use Rattle.lex.specs.Text.{text}
+use Rattle.output.specs.Output.{numberText, newline}
 use Rattle.conflict_set.specs.declared.Lines.{Lines}
+use Rattle.conflict_set.specs.declared.Sought.{Sought}
+use Rattle.conflict_set.specs.declared.Sought.the-variants as sought
 use Rattle.conflict_set.specs.In.{Whole, pairIn, nodeIn, workedIn, plainTo, conflictIn}
-use Rattle.conflict_set.specs.Text.{lineIn, lineOf, setText, conflictText, unless14, textBy, textOf}
+use Rattle.conflict_set.specs.Searching.{shortestIn}
+use Rattle.conflict_set.specs.Text.{lineIn, lineOf, setText, shortestText, soughtText, soughtIn, conflictText, unless14, textBy, textOf}
 use Rattle.conflict_set.specs.TextLaws.{set-same}
 use Rattle.conflict_set.specs.Encoded.{countOf, Until, until, worked-is, order-length, pair-is, node-is, all-list}
 
@@ -84,32 +90,46 @@ module _ (m : List ℕ) (c : Record) (s : State) (enc : Encodes m c s) (room : l
       set-is : conflictIn m (c .counts) (length (inOrder k)) ≡ set
       set-is = rw (rows-are, kinds-are) (theory.code-conflict (s .rows) (s .kinds) (s .mem .binds) (s .log) claim calm k e plain (pairIn m (c .counts)) sides)
 
-      numbered : All (λ i. i < length (inOrder k)) set
-      numbered =
-          all-part (λ i. i < length (inOrder k)) set (numbers (inOrder k))
-          (left-part (Kinded (s .kinds)) (theory.Met (s .rows) (s .kinds) (s .mem .binds) (s .log) claim calm k e plain) (numbers (inOrder k)) set (theory.conflict-left (s .rows) (s .kinds) (s .mem .binds) (s .log) claim calm k e plain))
-          (from-below 0 (length (inOrder k)) (length (inOrder k)) (omega arith))
+      numbers-all : (r : List ℕ) → Part r (numbers (inOrder k)) → All (λ i. i < length (inOrder k)) r
+      numbers-all r p = all-part (λ i. i < length (inOrder k)) r (numbers (inOrder k)) p (from-below 0 (length (inOrder k)) (length (inOrder k)) (omega arith))
 
-      set-text : (l : Lines) → setText (lineIn m (c .counts) l) (conflictIn m (c .counts) (length (inOrder k))) ≡ setText (lineOf l k) set
-      set-text l = ap (setText (lineIn m (c .counts) l)) set-is ∙ set-same (λ i. i < length (inOrder k)) (lineIn m (c .counts) l) (lineOf l k) (lines-are l) set numbered
+      same-lines : (l : Lines) (r : List ℕ) → Part r (numbers (inOrder k)) → setText (lineIn m (c .counts) l) r ≡ setText (lineOf l k) r
+      same-lines l r p = set-same (λ i. i < length (inOrder k)) (lineIn m (c .counts) l) (lineOf l k) (lines-are l) r (numbers-all r p)
 
-    by-plain : (l : Lines) (b : Bool) → allPlain (s .rows) (inOrder k) ≡ b → unless14 (length (inOrder k)) b (setText (lineIn m (c .counts) l) (conflictIn m (c .counts) (length (inOrder k)))) ≡ cond b (some (setText (lineOf l k) (conflictOf (s .rows) (s .kinds) (inOrder k)))) none
-    by-plain l true p = rw (ne-eqb (length (inOrder k)) 0 count-some) (ap some (set-text (all-exactly (s .rows) (claim .lower) (inOrder k) .0 p) l))
-    by-plain l false p = rw (ne-eqb (length (inOrder k)) 0 count-some) refl
+      set-part : Part set (numbers (inOrder k))
+      set-part = left-part (Kinded (s .kinds)) (theory.Met (s .rows) (s .kinds) (s .mem .binds) (s .log) claim calm k e plain) (numbers (inOrder k)) set (theory.conflict-left (s .rows) (s .kinds) (s .mem .binds) (s .log) claim calm k e plain)
 
-    some-text : (l : Lines) → conflictText m (c .counts) (c .equations) l ≡ textBy l (s .rows) (s .kinds) (some k)
+      -- n)'s answer
+      abbrev best : ℕ → List ℕ × ℕ
+      best b = shortestOf (s .rows) (s .kinds) (inOrder k) b
+
+      best-is : (b : ℕ) → shortestIn m (c .counts) (length (inOrder k)) b ≡ best b
+      best-is b = rw (set-is, rows-are, kinds-are) (theory.code-shortest (s .rows) (s .kinds) (s .mem .binds) (s .log) claim calm k e plain (pairIn m (c .counts)) sides b)
+
+      best-part : (b : ℕ) → Part ((best b) .0) (numbers (inOrder k))
+      best-part b = theory.shortest-part (s .rows) (s .kinds) (s .mem .binds) (s .log) claim calm k e plain b
+
+      sought-text : (q : Sought) → soughtIn m (c .counts) (length (inOrder k)) q ≡ soughtText q (s .rows) (s .kinds) k
+      sought-text (sought.Minimal l) = ap (setText (lineIn m (c .counts) l)) set-is ∙ same-lines l set set-part
+      sought-text (sought.Shortest l b) = ap (shortestText (lineIn m (c .counts) l)) (best-is b) ∙ ap (λ t. t ++ ((text "below=" ++ numberText ((best b) .1)) ++ newline)) (same-lines l ((best b) .0) (best-part b))
+
+    by-plain : (q : Sought) (b : Bool) → allPlain (s .rows) (inOrder k) ≡ b → unless14 (length (inOrder k)) b (soughtIn m (c .counts) (length (inOrder k)) q) ≡ cond b (some (soughtText q (s .rows) (s .kinds) k)) none
+    by-plain q true p = rw (ne-eqb (length (inOrder k)) 0 count-some) (ap some (sought-text (all-exactly (s .rows) (claim .lower) (inOrder k) .0 p) q))
+    by-plain q false p = rw (ne-eqb (length (inOrder k)) 0 count-some) refl
+
+    some-text : (q : Sought) → conflictText m (c .counts) (c .equations) q ≡ textBy q (s .rows) (s .kinds) (some k)
     unfolding conflictText
-    some-text l = rw (count, plain-is) (by-plain l (allPlain (s .rows) (inOrder k)) refl)
+    some-text q = rw (count, plain-is) (by-plain q (allPlain (s .rows) (inOrder k)) refl)
 
-  none-text : (l : Lines) → untilFailed (s .log) ≡ none → conflictText m (c .counts) (c .equations) l ≡ none
+  none-text : (q : Sought) → untilFailed (s .log) ≡ none → conflictText m (c .counts) (c .equations) q ≡ none
   unfolding conflictText
-  none-text l e = rw (worked, e) refl
+  none-text q e = rw (worked, e) refl
 
-  -- the text that the contract of `conflict_in` names is request f)'s
-  pub text-is : (l : Lines) → conflictText m (c .counts) (c .equations) l ≡ textOf l (s .rows) (s .kinds) (s .log)
+  -- the text that the contract of `conflict_in` names is that of the requests
+  pub text-is : (q : Sought) → conflictText m (c .counts) (c .equations) q ≡ textOf q (s .rows) (s .kinds) (s .log)
   unfolding textOf
-  text-is l = by (untilFailed (s .log)) refl
+  text-is q = by (untilFailed (s .log)) refl
     where
-      by : (o : Option (List Equation)) → untilFailed (s .log) ≡ o → conflictText m (c .counts) (c .equations) l ≡ textBy l (s .rows) (s .kinds) o
-      by none e = none-text l e
-      by (some k) e = some-text k e l
+      by : (o : Option (List Equation)) → untilFailed (s .log) ≡ o → conflictText m (c .counts) (c .equations) q ≡ textBy q (s .rows) (s .kinds) o
+      by none e = none-text q e
+      by (some k) e = some-text k e q

@@ -190,7 +190,8 @@ pub reopened-on : (m : List ℕ) (v : ℕ) → set (set (reopened m v) (v * 5 + 
 unfolding reopened
 reopened-on m v = let z : v + 1 ≡ suc v = omega arith in rw z refl
 
-reopened-kept : (m : List ℕ) (c : Counts) (n : ℕ) → n ≤ c .vars → Kept m c (reopened m n)
+-- nothing but bindings and marks
+pub reopened-kept : (m : List ℕ) (c : Counts) (n : ℕ) → n ≤ c .vars → Kept m c (reopened m n)
 unfolding reopened
 reopened-kept m c zero h = kept-self m c
 reopened-kept m c (suc n) h =
@@ -225,7 +226,8 @@ tab-same : {A : Type 0} (f : ℕ → A) (a : A) (n : ℕ) → ((v : ℕ) → v <
 tab-same f a zero h = refl
 tab-same f a (suc n) h = rw (h 0 (omega arith)) (ap (λ l. a ∷ l) (tab-same (λ i. f (suc i)) a n (λ v l. h (suc v) (omega arith))))
 
-reopened-mem : (m : List ℕ) (n : ℕ) → memOf (reopened m n) n ≡ blank n
+-- nothing bound, nothing marked
+pub reopened-mem : (m : List ℕ) (n : ℕ) → memOf (reopened m n) n ≡ blank n
 unfolding memOf bindsOf marksOf bindingAt markAt blank
 reopened-mem m n =
     rw (tab-same (bindingAt (reopened m n) n) none n (λ v h. rw (lt-leb n v h, reopened-cell m n v h .0) refl), tab-same (markAt (reopened m n) n) false n (λ v h. rw (lt-leb n v h, reopened-cell m n v h .1) refl)) refl
@@ -391,7 +393,8 @@ module _ (m₀ : List ℕ) (c : Counts) (s : List ℕ) (k : ℕ) where
             record { kept = x .kept; answer = ap (λ (z : Res). isSuccess (z .0)) (x .same); memory = ap (λ (z : Res). z .1) (x .same) };
       }
 
-kinds-count : (m : List ℕ) (c : Counts) → length (kindsIn m c) ≡ c .vars
+-- as many kinds as variables
+pub kinds-count : (m : List ℕ) (c : Counts) → length (kindsIn m c) ≡ c .vars
 unfolding kindsOf
 kinds-count m c = tab-length (λ v. kindAt m (c .vars) v) (c .vars)
 
@@ -466,7 +469,8 @@ unfolding cellsFrom
 cells-last s i zero = let z : i + 0 ≡ i = omega arith in rw z refl
 cells-last s i (suc n) = let z : i + suc n ≡ suc i + n = omega arith in rw z (ap (λ l. cell s i ∷ l) (cells-last s (suc i) n))
 
-cells-same : (s : List ℕ) (i n j x : ℕ) → i + n ≤ j → cellsFrom (set s j x) i n ≡ cellsFrom s i n
+-- cells before the one that is set
+pub cells-same : (s : List ℕ) (i n j x : ℕ) → i + n ≤ j → cellsFrom (set s j x) i n ≡ cellsFrom s i n
 unfolding cellsFrom
 cells-same s i zero j x h = refl
 cells-same s i (suc n) j x h = rw (cell-else s j i x (λ e. omega arith), cells-same s (suc i) n j x (omega arith)) refl

@@ -2,7 +2,7 @@
 use mathlib.Core.Path.{_≡_, refl, sym, ap, subst, _∙_, fun-ext}
 use mathlib.Core.Logic.{_≢_, inr}
 use mathlib.Core.List.{List, [], _∷_, _++_, append-assoc, append-nil}
-use mathlib.Core.Option.{none}
+use mathlib.Core.Option.{none, some}
 use mathlib.Core.Bool.{Bool, true, false}
 use Prim.Native.Nat.{ℕ, suc, zero, _+_, _*_, _-_, _≤_, _<_}
 use native.Mathlib.Omega.{arith}
@@ -15,7 +15,9 @@ use Rattle.theory.specs.Basics.{All, clash}
 use Rattle.type_table.specs.declared.Counts.{Counts}
 use Rattle.type_table.specs.Memory.{pick, cell}
 use Rattle.record.specs.Own.{log-at}
-use Rattle.output.specs.Output.{zeros, Output, output, ended, full, Written, Appends, Finishes}
+use Rattle.lex.specs.Text.{text}
+use Rattle.conflict_theory.specs.Code.{searchIn}
+use Rattle.output.specs.Output.{numberText, newline, zeros, Output, output, ended, full, Written, Appends, Finishes}
 use Rattle.output.specs.Appending.{started, then, append-none}
 use Rattle.output.specs.declared.Ending.{Ending}
 use Rattle.output.specs.declared.Ending.the-variants as ending
@@ -23,9 +25,14 @@ use Rattle.conflict_set.specs.declared.Outcome.{Outcome}
 use Rattle.conflict_set.specs.declared.Outcome.the-variants as outcome
 use Rattle.conflict_set.specs.declared.Lines.{Lines}
 use Rattle.conflict_set.specs.declared.Lines.the-variants as lines
+use Rattle.conflict_set.specs.declared.Sought.{Sought}
+use Rattle.conflict_set.specs.declared.Sought.the-variants as sought
+use Rattle.conflict_set.specs.declared.Searched.{Searched}
 use Rattle.conflict_set.specs.In.{Whole, Kept, pairIn, nodeIn, cellsFrom, listIn, isFailed, firstBehind, workedIn, plainTo, conflictIn, ScannedBy}
-use Rattle.conflict_set.specs.Text.{lineText, lineIn, setText, told, byEnding, toldOf, WrittenBy, ConflictPut, conflictText, ConflictBy}
-use Rattle.conflict_set.specs.Laws.{cells-last, kept-self, pairs-on, nodes-on}
+use Rattle.conflict_set.specs.Text.{lineText, lineIn, setText, told, byEnding, toldOf, WrittenBy, ConflictPut, shortestText, BelowPut, SearchedPut, ShortestPut, SoughtPut, conflictText, ConflictBy}
+use Rattle.conflict_set.specs.Laws.{cells-last, kept-self, kept-on, whole-on, pairs-on, nodes-on}
+use Rattle.conflict_set.specs.Searching.{okIn, searchedOf, SearchedBy, shortestIn}
+use Rattle.conflict_set.specs.SearchLaws.{cells-length, ok-on, plain-on, plain-each}
 
 -- a number found not below another is not
 pub not-below : (i k : ℕ) → ltb i k ≡ false → k ≤ i
@@ -114,19 +121,56 @@ pub worked-most : (m : List ℕ) (q : ℕ) → workedIn m q ≤ q
 unfolding workedIn
 worked-most m q = omega (arith, first-most (λ i. isFailed (cell m (log-at + i * 3 + 2))) 0 q)
 
-module _ (m : List ℕ) (c : Counts) (q n : ℕ) (l : Lines) (x : List ℕ) (e : n ≡ workedIn m q) where
+-- ── n ──
+
+-- a set, the line `below=`, and the end
+pub below-law : (m : List ℕ) (c : Counts) (l : Lines) (s : List ℕ) (b : ℕ) (x : List ℕ) (d : ℕ) (y : List ℕ) (e : ℕ) (z : List ℕ) (r : Outcome) (u : List ℕ) → Appends (setText (lineIn m c l) s) 0 x d y
+    → Appends ((text "below=" ++ numberText b) ++ newline) d y e z → WrittenBy e z r u → BelowPut m c l s b x r u
+below-law m c l s b x d y e z r u p q w = record { by = w .by (shortestText (lineIn m c l) (s, b)) x ((then p q) .appends [] x (started x)) }
+
+module _ (m : List ℕ) (c : Counts) (l : Lines) (s : List ℕ) (k : ℕ) (t : List ℕ) (a : Searched) (x : List ℕ) (r : Outcome) (y : List ℕ) where
+  pub searched-found : a .found ≡ true → BelowPut m c l (listIn t (a .below)) (a .below) x r y → SearchedPut m c l s k t a x r y
+  searched-found e p = record { by = rw e (p .by) }
+
+  pub searched-kept : a .found ≡ false → BelowPut m c l (listIn s k) (a .below) x r y → SearchedPut m c l s k t a x r y
+  searched-kept e p = record { by = rw e (p .by) }
+
+pub shortest-law : (m : List ℕ) (c : Counts) (n : ℕ) (l : Lines) (b : ℕ) (s w t : List ℕ) (k : ℕ) (s′ t′ v u v′ : List ℕ) (a : Searched) (x : List ℕ) (r : Outcome) (y : List ℕ) → length s ≡ 2048 → length s′ ≡ 2048 → length t′ ≡ 2048
+    → ScannedBy m c n s w t k → SearchedBy w c s′ t′ k n b v u v′ a → SearchedPut v c l t k u a x r y → ShortestPut m c n l b x v r y
+shortest-law m c n l b s w t k s′ t′ v u v′ a x r y e d o f g p =
+    record {
+      by = λ h z q.
+          let i = f .by h (omega arith) in
+          let j = g .by (whole-on m c w (i .0) h) (plain-on m c h w (i .0) n (plain-each m c n q)) (omega (arith, f .most)) (omega (arith, f .most)) (f .most) in
+          let set = conflictIn m c n in
+          let size : length set ≡ k = ap length (sym (i .1)) ∙ cells-length t 0 k in
+          let kept = kept-on m c w v (i .0) (j .0) in
+          let found : searchedOf a u (listIn t k) ≡ shortestIn m c n b = ap (searchedOf a u) (i .1) ∙ j .1 set ∙ ap (λ (f : List ℕ → Bool). searchIn f n 1 (k - 1) b set) (ok-on m c h w (i .0)) ∙ ap (λ y. searchIn (okIn m c) n 1 (y - 1) b set) (sym size) in
+          (kept, p .by ∙ ap (λ y. toldOf (some (shortestText (lineIn v c l) y)) x) found ∙ ap (λ f. toldOf (some (shortestText f (shortestIn m c n b))) x) (lines-on m c v l kept h));
+    }
+
+-- ── both ──
+
+module _ (m : List ℕ) (c : Counts) (n : ℕ) (q : Sought) (x w : List ℕ) (r : Outcome) (y : List ℕ) where
+  pub sought-minimal : (l : Lines) → q ≡ sought.Minimal l → ConflictPut m c n l x w r y → SoughtPut m c n q x w r y
+  sought-minimal l e p = record { by = λ h k d. rw e (p .by h k) }
+
+  pub sought-shortest : (l : Lines) (b : ℕ) → q ≡ sought.Shortest l b → ShortestPut m c n l b x w r y → SoughtPut m c n q x w r y
+  sought-shortest l b e p = record { by = λ h k d. rw e (p .by h k d) }
+
+module _ (m : List ℕ) (c : Counts) (e n : ℕ) (q : Sought) (x : List ℕ) (i : n ≡ workedIn m e) where
   -- there are so few rows
   few : Whole m c → c .types ≤ 65535
   few h = omega (arith, h .types)
 
-  pub conflict-none : (r : Outcome) (y : List ℕ) → n ≡ 0 → told r y ≡ toldOf none x → ConflictBy m c q l x m r y
+  pub conflict-none : (r : Outcome) (y : List ℕ) → n ≡ 0 → told r y ≡ toldOf none x → ConflictBy m c e q x m r y
   unfolding conflictText
-  conflict-none r y z t = record { by = λ h k. (kept-self m c, rw (← e, z) t) }
+  conflict-none r y z t = record { by = λ h k. (kept-self m c, rw (← i, z) t) }
 
-  pub conflict-rough : (r : Outcome) (y : List ℕ) → n ≢ 0 → (c .types ≤ 65535 → false ≡ plainTo m c n) → told r y ≡ toldOf none x → ConflictBy m c q l x m r y
+  pub conflict-rough : (r : Outcome) (y : List ℕ) → n ≢ 0 → (c .types ≤ 65535 → false ≡ plainTo m c n) → told r y ≡ toldOf none x → ConflictBy m c e q x m r y
   unfolding conflictText
-  conflict-rough r y z p t = record { by = λ h k. let q = p (few h) in (kept-self m c, rw (← e, ne-eqb n 0 z, ← q) t) }
+  conflict-rough r y z p t = record { by = λ h k. let d = p (few h) in (kept-self m c, rw (← i, ne-eqb n 0 z, ← d) t) }
 
-  pub conflict-put : (w : List ℕ) (r : Outcome) (y : List ℕ) → n ≢ 0 → (c .types ≤ 65535 → true ≡ plainTo m c n) → ConflictPut m c n l x w r y → ConflictBy m c q l x w r y
+  pub conflict-put : (w : List ℕ) (r : Outcome) (y : List ℕ) → n ≢ 0 → (c .types ≤ 65535 → true ≡ plainTo m c n) → SoughtPut m c n q x w r y → ConflictBy m c e q x w r y
   unfolding conflictText
-  conflict-put w r y z p t = record { by = λ h b. let k = worked-most m q in let g = t .by h (omega arith) in let d = p (few h) in (g .0, rw (← e, ne-eqb n 0 z, ← d) (g .1)) }
+  conflict-put w r y z p t = record { by = λ h b. let k = worked-most m e in let d = p (few h) in let g = t .by h (omega arith) (sym d) in (g .0, rw (← i, ne-eqb n 0 z, ← d) (g .1)) }

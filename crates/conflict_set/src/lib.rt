@@ -1,5 +1,6 @@
-// The minimal conflict among the equations of a walk (document 02 f), over the memory of the walk: its types, its variables and its log. The
-// bindings and marks of the walk are lost; nothing else in the memory changes, so no second memory is needed.
+// The minimal conflict among the equations of a walk (document 02 f), and a shortest one (document 02 n), over the memory of the walk: its
+// types, its variables and its log. The bindings and marks of the walk are lost; nothing else in the memory changes, so no second memory is
+// needed.
 ghost use mathlib.Core.Path.{_≡_};
 ghost use mathlib.Core.Bool.{true};
 ghost use mathlib.Core.Option.{none};
@@ -12,18 +13,22 @@ ghost use Rattle.unify.specs.Promise.{rowsIn};
 ghost use Rattle.conflict_theory.specs.Plains.{isPlain, arePlain};
 ghost use Rattle.conflict_set.specs.In.{pairIn, nodeIn, plainHead, gotPlain, plainTo, listIn, isFailed, went, workedIn, reopened, AddedBy, AllAddedBy, SolvedBy, FellBy, ScannedBy};
 ghost use Rattle.conflict_set.specs.declared.Lines.the-variants.{Places};
-ghost use Rattle.conflict_set.specs.Text.{lineText, lineIn, setText, told, toldOf, WrittenBy, ConflictPut, ConflictBy};
+ghost use Rattle.conflict_set.specs.Searching.{leadIn, endIn, boundIn, openedIn, PushedBy, PushedFrom, PoppedBy, FollowedBy, AdvancedBy, TriedBy, FirstTriedBy, SearchedBy};
+ghost use Rattle.conflict_set.specs.Text.{lineText, lineIn, setText, told, toldOf, WrittenBy, ConflictPut, BelowPut, SearchedPut, ShortestPut, SoughtPut, ConflictBy};
 use output::Ending;
 use record::Record;
+use type_table::Bound;
 use type_table::Counts;
 use type_table::HEAD_ARRAY;
 use type_table::HEAD_DIVERGES;
 use type_table::HEAD_ERROR;
 use type_table::HEAD_FN_DEF;
+use type_table::HEAD_INFER_TY;
 use type_table::HEAD_LAMBDA;
 use type_table::HEAD_PARAM;
 use type_table::HEAD_REF;
 use type_table::TypeId;
+use type_table::VarId;
 use unify::Answer;
 
 // The most equations of a body.
@@ -31,6 +36,9 @@ pub const MOST_EQUATIONS: usize = 2048;
 
 // The number of no row: there are fewer.
 const NO_ROW: u16 = 65535;
+
+// The number of no variable: there are fewer.
+const NO_VAR: u16 = 65535;
 
 // ── the log ──
 
@@ -301,6 +309,283 @@ fn scan(m: &mut [u16], c: Counts, n: u16, set: &mut [u16]) -> u16
     k
 }
 
+// ── the search: one equation more, and taken back ──
+
+// Where a row leads.
+enum Lead {
+    // On to this row.
+    On(u16),
+    // It is this variable's, and that is open.
+    Open(u16),
+    Nowhere,
+}
+
+// Where the row y leads: an array to its element, a bound variable to its binding.
+fn lead_from(m: &[u16], c: Counts, y: u16) -> Lead
+    ensures { λ r. ⌜ r ≡ leadIn (now (m .entry)) c y ⌝ }
+{
+    let h = type_table::head(m, c, TypeId(y));
+    let a = type_table::number(m, c, TypeId(y));
+    if h == HEAD_ARRAY {
+        return Lead::On(a);
+    }
+    if h == HEAD_INFER_TY {
+        return match type_table::bound_to(m, c, VarId(a)) {
+            Bound::To(x) => Lead::On(x.0),
+            Bound::Open => Lead::Open(a),
+        };
+    }
+    Lead::Nowhere
+}
+
+// The open variable to which the row x leads through arrays and bindings, or that there is none. As many steps as unification has suffice.
+fn open_end(m: &[u16], c: Counts, x: TypeId) -> u16
+    ensures { λ r. ⌜ r ≡ endIn (now (m .entry)) c (x .0) ⌝ }
+{
+    let t = c.types as u64;
+    let v = c.vars as u64;
+    let mut n = v * (t + t + 1) + (t + t) + 1;
+    let mut y = x.0;
+    while 0 < n {
+        n -= 1;
+        match lead_from(m, c, y) {
+            Lead::On(z) => {
+                y = z;
+            }
+            Lead::Open(a) => {
+                return a;
+            }
+            Lead::Nowhere => {
+                return NO_VAR;
+            }
+        }
+    }
+    NO_VAR
+}
+
+// Of two variables that were open before an equation, the ends of its sides: the one that it bound, if it bound one.
+fn bound_of(m: &[u16], c: Counts, a: u16, b: u16) -> u16
+    ensures { λ r. ⌜ r ≡ boundIn (now (m .entry)) c a b ⌝ }
+{
+    match type_table::bound_to(m, c, VarId(a)) {
+        Bound::To(x) => a,
+        Bound::Open => b,
+    }
+}
+
+// What came of one equation more.
+enum Pushed {
+    // There still is a solution, and at most this variable was bound.
+    Bound(u16),
+    Failed,
+}
+
+// The equation i on top of those solved.
+fn push(m: &mut [u16], c: Counts, i: u16) -> Pushed
+    ensures { λ r. ⌜ PushedBy (now (m .entry)) c i (now (m .exit)) r ⌝ }
+{
+    let x = expected(m, c, i);
+    let y = got(m, c, i);
+    let a = open_end(m, c, x);
+    let b = open_end(m, c, y);
+    if add(m, c, i) {
+        let v = bound_of(m, c, a, b);
+        return Pushed::Bound(v);
+    }
+    Pushed::Failed
+}
+
+// Those of the places from j to k of a set on top of those before them, which are solved: whether there still is a solution. What each one
+// bound is noted at its place.
+fn push_from(m: &mut [u16], c: Counts, set: &[u16], bound: &mut [u16], j: u16, k: u16) -> bool
+    ensures { λ r. ⌜ PushedFrom (now (m .entry)) c (now (set .entry)) (now (bound .entry)) j k (now (m .exit)) (now (bound .exit)) r ⌝ }
+{
+    let mut i = j;
+    while i < k {
+        let q = memory_cells::read(set, i as usize);
+        match push(m, c, q) {
+            Pushed::Bound(v) => {
+                memory_cells::write(bound, i as usize, v);
+                i += 1;
+            }
+            Pushed::Failed => {
+                return false;
+            }
+        }
+    }
+    true
+}
+
+// A variable is open again.
+fn open_again(m: &mut [u16], c: Counts, v: u16)
+    ensures { λ _. ⌜ now (m .exit) ≡ openedIn (now (m .entry)) (c .vars) v ⌝ }
+{
+    let n = c.vars;
+    if v < n {
+        memory_cells::write(m, v as usize * 5 + 2, 0);
+    }
+}
+
+// Those of the places from p to k are taken back, the last one first.
+fn pop(m: &mut [u16], c: Counts, bound: &[u16], p: u16, k: u16)
+    ensures { λ _. ⌜ PoppedBy (now (m .entry)) c (now (bound .entry)) p k (now (m .exit)) ⌝ }
+{
+    let mut i = k;
+    while p < i {
+        i -= 1;
+        let v = memory_cells::read(bound, i as usize);
+        open_again(m, c, v);
+    }
+}
+
+// ── the search: subset by subset ──
+
+// The numbers from f on, in the places from p to k.
+fn follow(set: &mut [u16], p: u16, k: u16, f: u16)
+    requires { ⌜ (p ≤ k) × (f + (k - p) ≤ 65535) ⌝ }
+    ensures { λ _. ⌜ FollowedBy (now (set .entry)) p k f (now (set .exit)) ⌝ }
+{
+    let mut i = p;
+    let mut x = f;
+    while i < k {
+        memory_cells::write(set, i as usize, x);
+        i += 1;
+        x += 1;
+    }
+}
+
+// What came of a set.
+enum Advanced {
+    // The next one, which differs from this place on.
+    From(u16),
+    // It was the last.
+    Behind,
+}
+
+// The next k numbers below n.
+fn advance(set: &mut [u16], k: u16, n: u16) -> Advanced
+    ensures { λ r. ⌜ AdvancedBy (now (set .entry)) k n (now (set .exit)) r ⌝ }
+{
+    let mut p = k;
+    while 0 < p {
+        p -= 1;
+        let x = memory_cells::read(set, p as usize);
+        if x as u32 + (k as u32 - p as u32) + 1 <= n as u32 {
+            follow(set, p, k, x + 1);
+            return Advanced::From(p);
+        }
+    }
+    Advanced::Behind
+}
+
+// What came of a size.
+enum Tried {
+    // The set has no solution.
+    Found,
+    // No more may be tested.
+    Out,
+    // All have a solution, and so many more may be tested.
+    Through(u64),
+}
+
+// The sets of k of the first n equations from the one that stands, of which b may be tested; nothing is solved yet.
+fn tries_from(
+    m: &mut [u16],
+    c: Counts,
+    set: &mut [u16],
+    bound: &mut [u16],
+    k: u16,
+    n: u16,
+    b: u64,
+) -> Tried
+    ensures { λ r. ⌜ TriedBy (now (m .entry)) c (now (set .entry)) (now (bound .entry)) k n b (now (m .exit)) (now (set .exit)) (now (bound .exit)) r ⌝ }
+{
+    let mut left = b;
+    let mut j = 0;
+    loop {
+        if left == 0 {
+            return Tried::Out;
+        }
+        left -= 1;
+        if push_from(m, c, set, bound, j, k) {
+            match advance(set, k, n) {
+                Advanced::From(p) => {
+                    pop(m, c, bound, p, k);
+                    j = p;
+                }
+                Advanced::Behind => {
+                    return Tried::Through(left);
+                }
+            }
+        } else {
+            return Tried::Found;
+        }
+    }
+}
+
+// All of them, from the first one.
+fn tries(
+    m: &mut [u16],
+    c: Counts,
+    set: &mut [u16],
+    bound: &mut [u16],
+    k: u16,
+    n: u16,
+    b: u64,
+) -> Tried
+    ensures { λ r. ⌜ FirstTriedBy (now (m .entry)) c (now (set .entry)) (now (bound .entry)) k n b (now (m .exit)) (now (set .exit)) (now (bound .exit)) r ⌝ }
+{
+    follow(set, 0, k, 0);
+    reopen(m, c);
+    tries_from(m, c, set, bound, k, n, b)
+}
+
+// The answer of a search: whether a smaller set was found, and `below=`.
+struct Searched {
+    found: bool,
+    below: u16,
+}
+
+// The sets smaller than `most`.
+fn search(
+    m: &mut [u16],
+    c: Counts,
+    set: &mut [u16],
+    bound: &mut [u16],
+    most: u16,
+    n: u16,
+    b: u64,
+) -> Searched
+    ensures { λ r. ⌜ SearchedBy (now (m .entry)) c (now (set .entry)) (now (bound .entry)) most n b (now (m .exit)) (now (set .exit)) (now (bound .exit)) r ⌝ }
+{
+    let mut k = 1;
+    let mut left = b;
+    while k < most {
+        match tries(m, c, set, bound, k, n, left) {
+            Tried::Found => {
+                return Searched {
+                    found: true,
+                    below: k,
+                };
+            }
+            Tried::Out => {
+                return Searched {
+                    found: false,
+                    below: k,
+                };
+            }
+            Tried::Through(d) => {
+                left = d;
+                k += 1;
+            }
+        }
+    }
+    Searched {
+        found: false,
+        below: k,
+    }
+}
+
 // ── text ──
 
 // What the line of an equation has: its number; or with it the node whose rule raised the equation, and its two sides.
@@ -388,18 +673,78 @@ fn put_conflict(m: &mut [u16], c: Counts, n: u16, l: Lines, out: &mut [u8]) -> O
     written(out, d)
 }
 
-// The minimal conflict of the equations of a walk, over its memory.
-pub fn conflict_in(m: &mut [u16], r: Record, l: Lines, out: &mut [u8]) -> Outcome
-    ensures { λ a. ⌜ ConflictBy (now (m .entry)) (r .counts) (r .equations) l (now (out .entry)) (now (m .exit)) a (now (out .exit)) ⌝ }
+// The lines of the first k numbers of a set, and `below=`.
+fn put_below(out: &mut [u8], m: &[u16], c: Counts, l: Lines, set: &[u16], k: u16, b: u16) -> Outcome
+    ensures { λ r. ⌜ BelowPut (now (m .entry)) c l (listIn (now (set .entry)) k) b (now (out .entry)) r (now (out .exit)) ⌝ }
+{
+    let d = put_set(out, m, c, l, set, k);
+    let e = output::put_line(out, d, b"below=", b as usize);
+    written(out, e)
+}
+
+// The text of a search: the subset found, else the set of k numbers.
+fn put_searched(
+    out: &mut [u8],
+    m: &[u16],
+    c: Counts,
+    l: Lines,
+    set: &[u16],
+    k: u16,
+    subset: &[u16],
+    s: Searched,
+) -> Outcome
+    ensures { λ r. ⌜ SearchedPut (now (m .entry)) c l (now (set .entry)) k (now (subset .entry)) s (now (out .entry)) r (now (out .exit)) ⌝ }
+{
+    let b = s.below;
+    let f = s.found;
+    if f {
+        return put_below(out, m, c, l, subset, b, b);
+    }
+    put_below(out, m, c, l, set, k, b)
+}
+
+// A shortest conflict of the first n equations, with b subsets that may be tested.
+fn put_shortest(m: &mut [u16], c: Counts, n: u16, l: Lines, b: u64, out: &mut [u8]) -> Outcome
+    ensures { λ r. ⌜ ShortestPut (now (m .entry)) c n l b (now (out .entry)) (now (m .exit)) r (now (out .exit)) ⌝ }
+{
+    let mut set = [0u16; MOST_EQUATIONS];
+    let mut subset = [0u16; MOST_EQUATIONS];
+    let mut bound = [0u16; MOST_EQUATIONS];
+    let k = scan(m, c, n, &mut set);
+    let s = search(m, c, &mut subset, &mut bound, k, n, b);
+    put_searched(out, m, c, l, &set, k, &subset, s)
+}
+
+// What is sought.
+pub enum Sought {
+    // The minimal conflict that f) leaves.
+    Minimal(Lines),
+    // The answer of n), with so many subsets that may be tested.
+    Shortest(Lines, u64),
+}
+
+// What is sought among the first n equations.
+fn put_sought(m: &mut [u16], c: Counts, n: u16, q: Sought, out: &mut [u8]) -> Outcome
+    ensures { λ r. ⌜ SoughtPut (now (m .entry)) c n q (now (out .entry)) (now (m .exit)) r (now (out .exit)) ⌝ }
+{
+    match q {
+        Sought::Minimal(l) => put_conflict(m, c, n, l, out),
+        Sought::Shortest(l, b) => put_shortest(m, c, n, l, b, out),
+    }
+}
+
+// What is sought among the equations of a walk, over its memory.
+pub fn conflict_in(m: &mut [u16], r: Record, q: Sought, out: &mut [u8]) -> Outcome
+    ensures { λ a. ⌜ ConflictBy (now (m .entry)) (r .counts) (r .equations) q (now (out .entry)) (now (m .exit)) a (now (out .exit)) ⌝ }
 {
     let c = r.counts;
-    let q = r.equations;
-    let n = worked(m, q);
+    let e = r.equations;
+    let n = worked(m, e);
     if n == 0 {
         return nothing(out);
     }
     if all_plain(m, c, n) {
-        return put_conflict(m, c, n, l, out);
+        return put_sought(m, c, n, q, out);
     }
     nothing(out)
 }

@@ -16,7 +16,7 @@ conflict-in-spec =
     (λ c κs. search needs)
     (λ c. search needs)
     (λ c. search needs)
-    (λ c. conflict-put _ _ _ _ _ _ ((c .before .before .before .before .before .before .before .before .before .before .before .worked .ensures)) _ _ _ ((c .before .before .before .before .before .before .before .before .before .before .if1 .left)) (λ k. sym ((c .before .before .before .before .before .before .before .if2 .taken)) ∙ (c .before .before .before .before .before .before .before .before .all-plain .ensures k)) ((c .before .before .before .before .put-conflict .ensures)))
+    (λ c. conflict-put _ _ _ _ _ _ ((c .before .before .before .before .before .before .before .before .before .before .before .worked .ensures)) _ _ _ ((c .before .before .before .before .before .before .before .before .before .before .if1 .left)) (λ k. sym ((c .before .before .before .before .before .before .before .if2 .taken)) ∙ (c .before .before .before .before .before .before .before .before .all-plain .ensures k)) ((c .before .before .before .before .put-sought .ensures)))
     (λ c κs. search needs)
     (λ c. search needs)
     (λ c. search needs)
