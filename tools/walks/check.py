@@ -72,9 +72,9 @@ n = len(P)
 idx = {p[0]: i for i, p in enumerate(P)}
 el = dict(P)
 OUT = ['out'] if REP else []
-LINES = ['lines'] if QUA else []                    # plain data, behind the slices
+SOUGHT = ['sought'] if QUA else []                    # plain data, behind the slices
 TP = ['s', 'rows', 'cells', 'nodes', 'vars', 'types', 'log', 'memory'] + OUT              # the callee's lifetimes, in order
-TA = ['s', 'rows', 'cells', 'nodes', 'vars', 'types', 'room', 'log', 'memory'] + OUT + LINES      # its arguments
+TA = ['s', 'rows', 'cells', 'nodes', 'vars', 'types', 'room', 'log', 'memory'] + OUT + SOUGHT      # its arguments
 GONE = [t for t in TP if t != 'memory']             # given up to it
 SAID = [t for t in GONE if t != 's']                # with a last list
 VAR = {t: t for t in NP}; VAR['s'] = 'src'
@@ -85,12 +85,12 @@ row = lambda t: f'{"ShrSlice" if t == "s" else "MutSlice"} (named {idx[t]}) {K(t
 own = lambda t: f'‵ ({row(t)} .own {VAR[t]} (at {VAR[t]} ∷ []))'
 ZI = {t: i for i, t in enumerate(TA)}
 Z = lambda t: 'zs' + proj(ZI[t])
-LASTS = prod(['List ℕ' if t not in ('s', 'room', 'lines') else 'Unit {0}' for t in TA], 'Unit {0}')
+LASTS = prod(['List ℕ' if t not in ('s', 'room', 'sought') else 'Unit {0}' for t in TA], 'Unit {0}')
 fin = lambda t: f'‵ (finally {el[t]} ({VAR[t]} .name) ({Z(t)}))'
 RES, RN = ('Quarreled' if QUA else 'Reported', 'B') if REP else ('Answer', 'N')
 CORE = 'TablesQuarreled' if QUA else 'TablesReported' if REP else 'TablesChecked'
 ANSWER_OF = 'checked_answer' if QUA else 'answer_of'
-FORM = 'lines ' if QUA else ''
+FORM = 'sought ' if QUA else ''
 ENTRY = '(lentTables ' + ' '.join(f'({t} .now)' for t in ['rows', 'cells', 'nodes', 'vars', 'types']) + ' [] (log .now) (memory .now))'
 EXIT = lambda: '(lentTables ' + ' '.join(f'({Z(t)})' for t in ['rows', 'cells', 'nodes', 'vars', 'types']) + f' [] ({Z("log")}) ({Z("memory")}))'
 CORETEXT = f'{CORE} (src .now) (length (errors .now)) {FORM}{ENTRY} ' + ('(out .now) ' if REP else '') + f'r {EXIT()}' + (f' ({Z("out")})' if REP else '')
@@ -99,18 +99,18 @@ NU = '‵ (flft (ν ∷ []) fullShare)'
 LENT = '‵ (MutSlice (named 0) (ν ∷ []) u16 .own (lent δ) (at memory ∷ []))'
 REST = [tok('errors'), own('errors'), tok('memory'), own('memory')]
 
-LINESI = ['‵ (L.the-row .own lines (vl ∷ []))'] if QUA else []
-MAKE_LINES = iso('L.the-row', 'EL.makes L.the-type L′.the-plain 𝓤 H A', 'lines', 'is-lines') + ' $ ' if QUA else ''
-moved = lambda k, m: lst(range(k + len(LINES), k + len(LINES) + m))
+SOUGHTI = ['‵ (L.the-row  .own sought (vl ∷ []))'] if QUA else []
+MAKE_SOUGHT = iso('L.the-row', 'EL.makes L.the-type L′.the-plain 𝓤 H A', 'sought', 'is-sought') + ' $ ' if QUA else ''
+moved = lambda k, m: lst(range(k + len(SOUGHT), k + len(SOUGHT) + m))
 
 # apart
-ENTRY_T = [tok(t) for t in NP] + [TRUES]; ENTRY_O = [own(t) for t in NP] + LINESI + [TRUES]
-PI_APART = rel(tokens(NP) + ['true'] + owners(NP + LINES) + ['true′'], tokens(GONE) + owners(GONE) + ['t-errors', 'o-errors', 't-memory', 'o-memory'])
+ENTRY_T = [tok(t) for t in NP] + [TRUES]; ENTRY_O = [own(t) for t in NP] + SOUGHTI + [TRUES]
+PI_APART = rel(tokens(NP) + ['true'] + owners(NP + SOUGHT) + ['true′'], tokens(GONE) + owners(GONE) + ['t-errors', 'o-errors', 't-memory', 'o-memory'])
 # goes-tables
 ROOMI = '‵ (usize .own (length (errors .now)) (vint w64 (length (errors .now)) ∷ []))'
 ASK_T = [NU if t == 'memory' else tok(t) for t in TP] + [TRUES]
-ASK_O = [ROOMI if t == 'room' else LENT if t == 'memory' else LINESI[0] if t == 'lines' else own(t) for t in TA] + [TRUES]
-PI_GOES = rel(tokens(GONE) + owners(GONE) + ['t-memory', 'o-memory'] + owners(LINES) + ['o-room', 'true', 'true′'], tokens(TP) + ['true'] + owners(TA) + ['true′'])
+ASK_O = [ROOMI if t == 'room' else LENT if t == 'memory' else SOUGHTI[0] if t == 'sought' else own(t) for t in TA] + [TRUES]
+PI_GOES = rel(tokens(GONE) + owners(GONE) + ['t-memory', 'o-memory'] + owners(SOUGHT) + ['o-room', 'true', 'true′'], tokens(TP) + ['true'] + owners(TA) + ['true′'])
 # tables-said: the last lists are taken apart, and each length is learned
 FACTS = prod([f'Is {RN}.the-row r (w ∷ [])'] + [f'(length ({Z(t)}) ≡ length ({VAR[t]} .now))' for t in SAID + ['memory']] + [CORETEXT])
 opn = 3
@@ -129,14 +129,14 @@ txt += f'keep ! {lst([c2.index(x) for x in tokens(GONE) + finals(SAID) + ["t-mem
 # exits
 RESI = f'‵ ({RN}.the-row .own r (w ∷ []))'
 EXIT_T = [tok(t) for t in NP] + [TRUES]
-EXIT_F = [TRUES if t == 's' else f'‵ (finally {el[t]} ({t} .name) {"us" if t == "errors" else "vs" if t == "memory" else "(" + Z(t) + ")"})' for t in NP] + LINESI + [TRUES]
-PI_EXIT = rel(tokens(GONE) + finals(SAID) + ['t-errors', 't-memory', 'f-errors', 'f-memory'] + finals(LINES) + ['res', 'true', 'f-s', 'true′'], tokens(NP) + ['true'] + finals(NP + LINES) + ['true′', 'res'])
+EXIT_F = [TRUES if t == 's' else f'‵ (finally {el[t]} ({t} .name) {"us" if t == "errors" else "vs" if t == "memory" else "(" + Z(t) + ")"})' for t in NP] + SOUGHTI + [TRUES]
+PI_EXIT = rel(tokens(GONE) + finals(SAID) + ['t-errors', 't-memory', 'f-errors', 'f-memory'] + finals(SOUGHT) + ['res', 'true', 'f-s', 'true′'], tokens(NP) + ['true'] + finals(NP + SOUGHT) + ['true′', 'res'])
 
 # the walk
 w = Walk(['entry'])
 if QUA: n += 1                                      # the parameters with the plain one
 loc = {'room': n + 1, 'r': n + 2}; nxt = n + 3
-if QUA: loc['v-lines'] = n
+if QUA: loc['v-sought'] = n
 if REP: loc['a'] = nxt; nxt += 1
 else: loc['a'] = loc['r']
 loc['v-s'] = 1
@@ -144,7 +144,7 @@ for t in TP[1:]: loc['p-' + t] = nxt; loc['v-' + t] = nxt + 1; nxt += 2
 loc['unit'] = nxt; nxt += 1
 for t in ['errors', 'memory']: loc['p2-' + t] = nxt; loc['v2-' + t] = nxt + 1; nxt += 2
 ARGV = '(' + ''.join(f'at {VAR[t]} ∷ ' for t in NP) + ('vl ∷ ' if QUA else '') + '[])'
-TYPL = ['(EL.lawful L.the-type L′.the-laws 𝓤 H A W tt .typed lines _ is-lines .0)'] if QUA else []
+TYPL = ['(EL.lawful L.the-type L′.the-laws 𝓤 H A W tt  .typed sought _ is-sought .0)'] if QUA else []
 w.enter(nxt, 'code.function', ARGV)
 w.passes([f'(tt, (tt, (record {{ fits = room-{t} .0 }}, tt)))' for t in NP] + TYPL)
 w.count(loc['room'], idx['errors'] + 1, 'room-errors .0')
@@ -195,17 +195,17 @@ WALK = w.text()
 
 LFTS = tup([K(t) for t in NP]); SHRS = tup([Q(t) for t in NP])
 TL = tup(['ν ∷ []' if t == 'memory' else K(t) for t in TP]); TQ = tup(['fullShare' if t == 'memory' else Q(t) for t in TP])
-VAR['lines'] = 'lines'
+VAR['sought'] = 'sought'
 TARGS = tup(['length (errors .now)' if t == 'room' else 'lent δ' if t == 'memory' else VAR[t] for t in TA])
-TVALS = tup(['vint w64 (length (errors .now)) ∷ []' if t == 'room' else 'vl ∷ []' if t == 'lines' else f'at {VAR[t]} ∷ []' for t in TA])
-ARGTY = prod(['RefT (List ErrorRow)' if t == 'errors' else 'RefT (List ℕ)' for t in NP] + (['Lines'] if QUA else []), 'Unit {0}')
+TVALS = tup(['vint w64 (length (errors .now)) ∷ []' if t == 'room' else 'vl ∷ []' if t == 'sought' else f'at {VAR[t]} ∷ []' for t in TA])
+ARGTY = prod(['RefT (List ErrorRow)' if t == 'errors' else 'RefT (List ℕ)' for t in NP] + (['Sought'] if QUA else []), 'Unit {0}')
 nl = len(NP)                                        # the lifetimes
 VALTY = prod(['List Val'] * n, 'Unit {0}')
 SRC = '(shrSliceOf (0 ∷ []) tt (plain (λ _. u8))) yes'
 STAYED = tup([f'stay-dropped {SRC}'] + [f'gave-slice ({i} ∷ []) tt (plain (λ _. {P[i][1]}))' for i in range(1, nl)] + (['stay-none (λ _. L.the-row) yes'] if QUA else []))
 GOS = tup([f'goes-dropped 𝓤 H A W {nl} {SRC} (λ κs x f. refl)'] + [f'goes-gave-slice 𝓤 H A W {nl} {i} tt (plain (λ _. {P[i][1]}))' for i in range(1, nl)] + ([f'goes-none 𝓤 H A W {nl} (λ _. L.the-row) yes (λ κs x f. refl)'] if QUA else []))
-ENDS = tup(['tt'] + ['us' if t == 'errors' else 'vs' if t == 'memory' else Z(t) for t in NP[1:]] + ['tt'] * len(LINES))
-FITS = tup(['tt'] + ['len-errors' if t == 'errors' else 'len-memory' if t == 'memory' else 'f' + proj(SAID.index(t) + 1) for t in NP[1:]] + ['tt'] * len(LINES))
+ENDS = tup(['tt'] + ['us' if t == 'errors' else 'vs' if t == 'memory' else Z(t) for t in NP[1:]] + ['tt'] * len(SOUGHT))
+FITS = tup(['tt'] + ['len-errors' if t == 'errors' else 'len-memory' if t == 'memory' else 'f' + proj(SAID.index(t) + 1) for t in NP[1:]] + ['tt'] * len(SOUGHT))
 LAWARGS = f'(src .now) (errors .now) {FORM}{ENTRY} ' + ('(out .now) ' if REP else '') + f'r {EXIT()} ' + (f'({Z("out")}) d ' if REP else '') + f'us vs (f{" .1" * (nS + 2)}) ' + ('ed ' if REP else '') + 'h'
 g_ans = goal_emp([], [('*', TRUE, ('f', ('new', iso('B.the-row', 'EL.makes B.the-type B′.the-plain 𝓤 H A', 'r', 'is')), TRUE))])
 ANSC = '' if not REP else f'''
@@ -250,18 +250,18 @@ module _ {{M : Type 1}} (𝓤 : URA M) (H : Heap 𝓤) (A : Atoms 𝓤) (mem : M
 {ANSC}
 module _ {{M : Type 1}} (𝓤 : URA M) (H : Heap 𝓤) (A : Atoms 𝓤) (W : Given 𝓤 H A) (mem : Memory → SProp 𝓤) (run : Routine → Fun 𝓤) ({" ".join(K(t) for t in NP)} : Lft) ({" ".join(Q(t) for t in NP)} : Share)
     ({" ".join(VAR[t] for t in NP if t != "errors")} : RefT (List ℕ)) (errors : RefT (List ErrorRow))
-    {ROOMS}{' (lines : Lines) (vl : Val) (is-lines : Is L.the-row lines (vl ∷ []))' if QUA else ''} where
+    {ROOMS}{' (sought : Sought) (vl : Val) (is-sought : Is L.the-row sought (vl ∷ []))' if QUA else ''} where
   -- the arguments' type
   abbrev Arg : Type 0
   Arg = {ARGTY}
 
   -- the arguments
   abbrev a : Arg
-  a = {tup([VAR[t] for t in NP + LINES])}
+  a = {tup([VAR[t] for t in NP + SOUGHT])}
 
   -- their machine values
   abbrev vals : {VALTY}
-  vals = {tup([f'at {VAR[t]} ∷ []' for t in NP] + ['vl ∷ []'] * len(LINES))}
+  vals = {tup([f'at {VAR[t]} ∷ []' for t in NP] + ['vl ∷ []'] * len(SOUGHT))}
 
   -- what the walk ends in
   abbrev Post : Val → SProp 𝓤
@@ -298,8 +298,8 @@ module _ {{M : Type 1}} (𝓤 : URA M) (H : Heap 𝓤) (A : Atoms 𝓤) (W : Giv
   goes-tables : (ν : ℕ) (δ : GName) → ent 𝓤 (⋆ 𝓤 H A (raw (⋆ 𝓤 H A mine) ∷ {NU} ∷ {LENT} ∷ [])) (TablesC 𝓤 H A mem run .pre (to-tables ν δ))
   goes-tables ν δ =
       qed W (raw (⋆ 𝓤 H A mine) ∷ {NU} ∷ {LENT} ∷ []) ∵
-      nothing ! $ nothing ! $ {iso('usize', 'uint-makes 𝓤 H A W w64', '(length (errors .now))', '(refl, room-errors .0)')} $ {MAKE_LINES}move ! {moved(3, 3)} $ by ! (via 𝓤 _ (sorts 𝓤 H A mine
-      ({items([NU, LENT] + LINESI + [ROOMI, TRUES, TRUES])})
+      nothing ! $ nothing ! $ {iso('usize', 'uint-makes 𝓤 H A W w64', '(length (errors .now))', '(refl, room-errors .0)')} $ {MAKE_SOUGHT}move ! {moved(3, 3)} $ by ! (via 𝓤 _ (sorts 𝓤 H A mine
+      ({items([NU, LENT] + SOUGHTI + [ROOMI, TRUES, TRUES])})
       ({items(ASK_T)})
       ({items(ASK_O)}) {PI_GOES} refl) (alone 𝓤 H A _))
 
@@ -325,8 +325,8 @@ module _ {{M : Type 1}} (𝓤 : URA M) (H : Heap 𝓤) (A : Atoms 𝓤) (W : Giv
   exits w r zs us vs f len-errors len-memory {"d ed " if REP else ""}h =
       qed W (raw (⋆ 𝓤 H A (left zs)) ∷ {tok("errors")} ∷ {tok("memory")} ∷ ‵ (finally E.the-row (errors .name) us) ∷ ‵ (finally u16 (memory .name) vs) ∷ []) ∵
       suffices ! _ (ends-at 𝓤 H A {EX}.ended stayed ({EX}.clauses 𝓤 H A mem run) W (({LFTS}, {SHRS}, tt, a, vals), tt) w r {ENDS} {FITS}) $ says ! ({fn}-law {LAWARGS}) $
-      nothing ! $ nothing ! $ nothing ! $ {iso(RN + '.the-row', f'EL.makes {RN}.the-type {RN}′.the-plain 𝓤 H A', 'r', '(f .0)')} $ {MAKE_LINES}move ! {moved(4, 5)} $ by ! (sorts3 𝓤 H A (left zs)
-      ({items([tok('errors'), tok('memory'), '‵ (finally E.the-row (errors .name) us)', '‵ (finally u16 (memory .name) vs)'] + LINESI + [RESI, TRUES, TRUES, TRUES])})
+      nothing ! $ nothing ! $ nothing ! $ {iso(RN + '.the-row', f'EL.makes {RN}.the-type {RN}′.the-plain 𝓤 H A', 'r', '(f .0)')} $ {MAKE_SOUGHT}move ! {moved(4, 5)} $ by ! (sorts3 𝓤 H A (left zs)
+      ({items([tok('errors'), tok('memory'), '‵ (finally E.the-row (errors .name) us)', '‵ (finally u16 (memory .name) vs)'] + SOUGHTI + [RESI, TRUES, TRUES, TRUES])})
       ({items(EXIT_T)})
       ({items(EXIT_F)}) ({RESI} ∷ []) {PI_EXIT} refl)
 
@@ -341,7 +341,7 @@ module _ {{M : Type 1}} (𝓤 : URA M) (H : Heap 𝓤) (A : Atoms 𝓤) (W : Giv
   -- the walk, at each choice of lifetimes and arguments
   {fn}-walks : (C : Calls 𝓤 H) (Λ : Loops 𝓤 H) → FmC 𝓤 H (W .laws) C → Triple 𝓤 (C {k_t}) (TablesC 𝓤 H A mem run){KAT} → Triple 𝓤 (C {k_h}) (Hand 𝓤 H A mem run) → Walks 𝓤 H A {EX}.ended stayed (WpFn 𝓤 H C Λ code.function) ({EX}.clauses 𝓤 H A mem run)
   {fn}-walks C Λ fm known-tables{KN} known-hand = walked 𝓤 H A {EX}.ended stayed ({EX}.clauses 𝓤 H A mem run) (WpFn 𝓤 H C Λ code.function)
-      (λ κs. {tup(['slice-vals'] * nl + ['EL.vals L.the-type L′.the-laws'] * len(LINES))}) (λ κs. {tup([f'{"shr" if t == "s" else "mut"}-slice-tells (named {i}) (κs{proj(i)}) {el[t]}' for i, t in enumerate(NP)] + ['EL.tells L.the-type L′.the-laws'] * len(LINES))})
+      (λ κs. {tup(['slice-vals'] * nl + ['EL.vals L.the-type L′.the-laws'] * len(SOUGHT))}) (λ κs. {tup([f'{"shr" if t == "s" else "mut"}-slice-tells (named {i}) (κs{proj(i)}) {el[t]}' for i, t in enumerate(NP)] + ['EL.tells L.the-type L′.the-laws'] * len(SOUGHT))})
       (λ κs qs bounds a g are. via 𝓤 _ (fst∗ 𝓤 _ (emp 𝓤)) (walk 𝓤 H A W mem run {' '.join(f'(κs{proj(i)})' for i in range(nl))} {' '.join(f'(qs{proj(i)})' for i in range(nl))}
       {' '.join(f'(a{proj(i)})' for i in range(nl) if NP[i] != 'errors')} (a{proj(idx['errors'])}) {' '.join(f'(are{proj(i)} .0 .1)' for i in range(nl))}{f' (a{proj(nl)}) (EL.val L.the-type L′.the-laws (a{proj(nl)})) (are{proj(nl)})' if QUA else ''} C Λ fm known-tables{KN} known-hand))
 
@@ -367,7 +367,7 @@ top = f'''-- `{CR}::{fn}` meets its contract: a walk of its MIR, by hand. All th
 -- `memory` is lent again to `{callee}`, for a lifetime that is made for the call, and comes back (`Slices` of lending); every other slice but `errors` is given up to it for good. Then `errors` and `memory` are given up to `hand_errors` (`Handing` of checker).
 -- The walk ends in `{fn}-law` of the laws, and reads no definition that a contract cites.
 '''
-crate = spec(CORE, 'HandsErrors', 'lent as lentTables', *(['checkedAnswer' + ' of quarrel' * QUA] if REP else [])) + den('ErrorRow') + den('Answer') + (den(RES) if REP else '') + (den('Lines') if QUA else '') + f'use {ty("ErrorRow")} as E\nuse {ty("Answer")} as N\nuse {ty("Answer")}.Laws as N′\n' + (f'use {ty(RES)} as B\nuse {ty(RES)}.Laws as B′\n' if REP else '') + (f'use {ty("Lines")} as L\nuse {ty("Lines")}.Laws as L′\n' if QUA else '') + f'''use Rattle.lending.specs.Slices.{{LentAgain, lends-again, comes-back}}
+crate = spec(CORE, 'HandsErrors', 'lent as lentTables', *(['checkedAnswer' + ' of quarrel' * QUA] if REP else [])) + den('ErrorRow') + den('Answer') + (den(RES) if REP else '') + (den('Sought') if QUA else '') + f'use {ty("ErrorRow")} as E\nuse {ty("Answer")} as N\nuse {ty("Answer")}.Laws as N′\n' + (f'use {ty(RES)} as B\nuse {ty(RES)}.Laws as B′\n' if REP else '') + (f'use {ty("Sought")} as L\nuse {ty("Sought")}.Laws as L′\n' if QUA else '') + f'''use Rattle.lending.specs.Slices.{{LentAgain, lends-again, comes-back}}
 use Rattle.lending.specs.Sorts.{{sorts, sorts3, alone}}
 use Rattle.lending.specs.Frees.{{full, frees-all}}
 use Rattle.lending.specs.Unit.{{unit-typed}}

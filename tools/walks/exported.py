@@ -1,13 +1,17 @@
-# Prints, by its argument, the proof of an exported function: `check`, that of nunthila::nunthila_check; `report`, that of nunthila::nunthila_report; `quarrel`, that of nunthila::nunthila_quarrel.
+# Prints, by its argument, the proof of an exported function: `check`, that of nunthila::nunthila_check; `report`, `quarrel` and `shortest` likewise.
 import sys
 from functools import partial
 import names
 from names import LAW, key, uses, tidy
 from walk import *
-callee = sys.argv[1]
-QUA = callee == 'quarrel'                           # with a plain parameter behind the slices, of which `lines_of` makes the callee's last argument
+which = sys.argv[1]
+QUA = which in ('quarrel', 'shortest')              # with plain parameters behind the slices, of which `maker` makes the callee's last argument
+PLAIN = {'quarrel': [('places', 'usize')], 'shortest': [('places', 'usize'), ('number', 'u64')]}.get(which, [])
+maker = {'quarrel': 'minimal', 'shortest': 'shortest'}.get(which)
+SOUGHT = {'quarrel': 'Minimal (linesOf places)', 'shortest': 'Shortest (linesOf places) number'}.get(which)
+callee = 'quarrel' if QUA else which
 REP = callee == 'report' or QUA                     # with an output
-CR, fn = 'nunthila', 'nunthila_' + callee
+CR, fn = 'nunthila', 'nunthila_' + which
 teller = 'tell_quarrel' if QUA else 'tell_report' if REP else 'tell'
 mod, ty, den, spec, cites, self = (partial(f, CR) for f in (names.mod, names.ty, names.den, names.spec, names.cites, names.self))
 # the parameters: name and element; all but the last are those of the callee, in order
@@ -33,30 +37,30 @@ TABLES = NP[1:9]
 ENTRY = '(lent ' + ' '.join(f'({t} .now)' for t in TABLES) + ')'
 EXIT = '(lent ' + ' '.join(f'({Z(t)})' for t in TABLES) + ')'
 # what the callee promises, and what the teller promises
-CORE = f'quarreled r {EXIT} ({Z("out")}) ≡ quarrelOf (src .now) form {ENTRY} (out .now)' if QUA else f'reported r {EXIT} ({Z("out")}) ≡ reportOf (src .now) {ENTRY} (out .now)' if REP else f'held r {EXIT} ≡ checkOf (src .now) {ENTRY}'
+CORE = f'quarreled r {EXIT} ({Z("out")}) ≡ quarrelOf (src .now) goal {ENTRY} (out .now)' if QUA else f'reported r {EXIT} ({Z("out")}) ≡ reportOf (src .now) {ENTRY} (out .now)' if REP else f'held r {EXIT} ≡ checkOf (src .now) {ENTRY}'
 TOLD = lambda k, vs: f'numberTold {k} {vs} ≡ numberTold ' + ('(quarrelNumber r) (sets (told .now) 0 (quarrelNumbers r))' if QUA else '(reportNumber r) (sets (told .now) 0 (toldNumbers (checkedAnswer r) (textLength r)))' if REP else '(answerNumber r) (sets (told .now) 0 (toldNumbers r 0))')
 
-# what depends on the form of the lines: its type before a type, its name behind a name, with its machine value
-FTY, FO = ('Lines → ', ' form') if QUA else ('', '')
-FSIG, FV = ('(form : Lines) (vf : Val) → ', ' form vf') if QUA else ('', '')
-USE = lambda x: f'({x} form vf)' if QUA else x
-PLACES = ['places'] * QUA
-PLACESI = ['‵ (usize .own places (vint w64 places ∷ []))'] * QUA
-FORMI = ['‵ (L.the-row .own form (vf ∷ []))'] * QUA
-MAKE_PLACES = iso('usize', 'uint-makes 𝓤 H A W w64', 'places', 'is-places') + ' $ ' if QUA else ''
-MAKE_FORM = iso('L.the-row', 'EL.makes L.the-type L′.the-plain 𝓤 H A', 'form', 'is-form')
+# what depends on what is sought: its type before a type, its name behind a name, with its machine value
+FTY, FO = ('Sought → ', ' goal') if QUA else ('', '')
+FSIG, FV = ('(goal : Sought) (vf : Val) → ', ' goal vf') if QUA else ('', '')
+USE = lambda x: f'({x} goal vf)' if QUA else x
+PLAINS = [p[0] for p in PLAIN]
+PLAINI = [f'‵ ({t} .own {p} (vint w64 {p} ∷ []))' for p, t in PLAIN]
+GOALI = ['‵ (L.the-row .own goal (vf ∷ []))'] * QUA
+MAKE_PLAINS = ''.join(iso(t, 'uint-makes 𝓤 H A W w64', p, 'is-' + p) + ' $ ' for p, t in reversed(PLAIN))
+MAKE_GOAL = iso('L.the-row', 'EL.makes L.the-type L′.the-plain 𝓤 H A', 'goal', 'is-goal')
 
 # apart
 REST = [tok('told'), own('told')]
-ENTRY_T = [tok(t) for t in NP] + [TRUES]; ENTRY_O = [own(t) for t in NP] + PLACESI + [TRUES]
-ASK_T = [tok(t) for t in GONE] + [TRUES]; ASK_O = [own(t) for t in GONE] + FORMI + [TRUES]
+ENTRY_T = [tok(t) for t in NP] + [TRUES]; ENTRY_O = [own(t) for t in NP] + PLAINI + [TRUES]
+ASK_T = [tok(t) for t in GONE] + [TRUES]; ASK_O = [own(t) for t in GONE] + GOALI + [TRUES]
 MINE = [tok(t) for t in GONE] + [own(t) for t in GONE]
-PI_APART = rel(tokens(NP) + ['true'] + owners(NP + PLACES) + ['true′'], (tokens(GONE) + owners(GONE) if QUA else tokens(GONE) + ['true'] + owners(GONE) + ['true′']) + ['t-told', 'o-told'])
-PI_GOES = rel(tokens(GONE) + owners(GONE) + ['o-form', 'true', 'true′'], tokens(GONE) + ['true'] + owners(GONE) + ['o-form', 'true′']) if QUA else ''
+PI_APART = rel(tokens(NP) + ['true'] + owners(NP + PLAINS) + ['true′'], (tokens(GONE) + owners(GONE) if QUA else tokens(GONE) + ['true'] + owners(GONE) + ['true′']) + ['t-told', 'o-told'])
+PI_GOES = rel(tokens(GONE) + owners(GONE) + ['o-goal', 'true', 'true′'], tokens(GONE) + ['true'] + owners(GONE) + ['o-goal', 'true′']) if QUA else ''
 # callee-said: the last lists are taken apart, and each length is learned
 FACTS = prod([f'Is {RN}.the-row r (w ∷ [])'] + [f'(length ({Z(t)}) ≡ length ({VAR[t]} .now))' for t in SAID] + [f'({CORE})'])
 opn = 3
-c2, txt = split_all(['lasts', 'back'], 'lasts', ['l-' + t for t in GONE] + ['l-form'] * QUA + ['true'], 'fsplit')
+c2, txt = split_all(['lasts', 'back'], 'lasts', ['l-' + t for t in GONE] + ['l-goal'] * QUA + ['true'], 'fsplit')
 for t in SAID:
     i = c2.index('l-' + t)
     txt += (f'move ! ({i} ∷ []) $ ' if i else '') + f'fsplit ! $ move ! (1 ∷ []) $ feqL ! (λ len-{t}. '; opn += 1
@@ -71,37 +75,37 @@ txt += f'keep ! {lst([c2.index(x) for x in tokens(GONE) + finals(SAID)])} $ by !
 # exits
 RESI = '‵ (usize .own k (u ∷ []))'
 EXIT_T = [tok(t) for t in NP] + [TRUES]
-EXIT_F = [TRUES] + [fin(t) for t in SAID] + [FT] + PLACESI + [TRUES]
-PI_EXIT = rel(tokens(GONE) + finals(SAID) + ['t-told', 'f-told'] + finals(PLACES) + ['res', 'true', 'f-s', 'true′'], tokens(NP) + ['true'] + finals(NP + PLACES) + ['true′', 'res'])
+EXIT_F = [TRUES] + [fin(t) for t in SAID] + [FT] + PLAINI + [TRUES]
+PI_EXIT = rel(tokens(GONE) + finals(SAID) + ['t-told', 'f-told'] + finals(PLAINS) + ['res', 'true', 'f-s', 'true′'], tokens(NP) + ['true'] + finals(NP + PLAINS) + ['true′', 'res'])
 
 # the walk
 w = Walk(['entry'])
-p = n + QUA                                         # the parameters
-loc = {'form': p + 1, 'r': p + 1 + QUA, 'v-s': 1}; nxt = p + 2 + QUA
+p = n + len(PLAIN)                                  # the parameters
+loc = {'goal': p + 1, 'r': p + 1 + QUA, 'v-s': 1}; nxt = p + 2 + QUA
 for t in NP[1:]: loc['p-' + t] = nxt; loc['v-' + t] = nxt + 1; nxt += 2
-ARGV = '(' + ''.join(f'at {VAR[t]} ∷ ' for t in NP) + 'vint w64 places ∷ ' * QUA + '[])'
+ARGV = '(' + ''.join(f'at {VAR[t]} ∷ ' for t in NP) + ''.join(f'vint w64 {p} ∷ ' for p in PLAINS) + '[])'
 w.enter(nxt, 'code.function', ARGV)
-w.passes([f'(tt, (tt, (record {{ fits = room-{t} .0 }}, tt)))' for t in NP] + ['(uint-lawful 𝓤 H A W w64 .typed places _ is-places .0)'] * QUA)
+w.passes([f'(tt, (tt, (record {{ fits = room-{t} .0 }}, tt)))' for t in NP] + [f'(uint-lawful 𝓤 H A W w64 .typed {p} _ is-{p} .0)' for p in PLAINS])
 if QUA:
-    w.note('`lines_of`: it takes plain data, which is had for nothing')
-    w.use([], '(raw (LinesC 𝓤 H A mem run .pre to-lines))', 'goes-lines', 'pre')
-    w.call('LinesC 𝓤 H A mem run', 'known-lines', 'to-lines', [p], 'vf')
-    w.put('use1 W (later (some (λ (form : Lines). (‵ ftrue ⊛ ‵ (L.the-row .own form (vf ∷ []))) ⊛ raw (ensured 𝓤 H A lines.ended (lines.clauses 𝓤 H A mem run) tt (places, tt) tt form)))) (id⊢ 𝓤 _) $ await ! tt $ '); w.lam('pick !', 'form'); w.nl()
-    w.head(1, 'both'); w.split('res', 'ens'); w.use(['ens'], '(raw (fact 𝓤 (form ≡ linesOf places)))', '(lines-is 𝓤 H A mem run places form)', 'fact')
-    w.lam('heard ! (form ≡ linesOf places)', 'ef'); w.head(1)
+    w.note(f'`{maker}`: it takes plain data, which is had for nothing')
+    w.use([], '(raw (MakeC 𝓤 H A mem run .pre to-make))', 'goes-make', 'pre')
+    w.call('MakeC 𝓤 H A mem run', 'known-make', 'to-make', list(range(n + 1, p + 1)), 'vf')
+    w.put(f'use1 W (later (some (λ (goal : Sought). (‵ ftrue ⊛ ‵ (L.the-row .own goal (vf ∷ []))) ⊛ raw (ensured 𝓤 H A make.ended (make.clauses 𝓤 H A mem run) tt {tup(PLAINS)} tt goal)))) (id⊢ 𝓤 _) $ await ! tt $ '); w.lam('pick !', 'goal'); w.nl()
+    w.head(1, 'both'); w.split('res', 'ens'); w.use(['ens'], f'(raw (fact 𝓤 (goal ≡ {SOUGHT})))', f'(make-is 𝓤 H A mem run {" ".join(PLAINS)} goal)', 'fact')
+    w.lam(f'heard ! (goal ≡ {SOUGHT})', 'ef'); w.head(1)
     w.move('res'); w.split('t·', 'r·'); w.put('drop ! $ '); w.head(1)
-    w.lam('facts ! L.the-row (Is L.the-row) (shows 𝓤 H A L.the-row) form (vf ∷ [])', 'is-form'); w.head(1)
-    w.land(loc['form'], '(EL.lawful L.the-type L′.the-laws 𝓤 H A W tt .typed form _ is-form .0)')
+    w.lam('facts ! L.the-row (Is L.the-row) (shows 𝓤 H A L.the-row) goal (vf ∷ [])', 'is-goal'); w.head(1)
+    w.land(loc['goal'], '(EL.lawful L.the-type L′.the-laws 𝓤 H A W tt .typed goal _ is-goal .0)')
 for t in SAID: w.slice(loc['p-' + t], loc['v-' + t], idx[t] + 1, f'room-{t} .0')
 w.note(f'`{callee}`: every slice but `told` is given up to it')
 if QUA:
     w.use(['entry'], f'(raw (⋆ 𝓤 H A mine) ⊛ {star(REST)})', 'apart', 'parts')
     w.splits('mine', 'κt', 'told')
-    w.use(['mine'], f'(raw (CalleeC 𝓤 H A mem run .pre {USE("to-callee")}))', '(goes-callee form vf is-form)', 'pre')
+    w.use(['mine'], f'(raw (CalleeC 𝓤 H A mem run .pre {USE("to-callee")}))', '(goes-callee goal vf is-goal)', 'pre')
 else:
     w.use(['entry'], f'(raw (CalleeC 𝓤 H A mem run .pre to-callee) ⊛ {star(REST)})', 'apart', 'parts')
     w.splits('pre', 'κt', 'told'); w.move('pre')
-w.call('CalleeC 𝓤 H A mem run', 'known-callee', USE('to-callee'), [loc['v-' + t] for t in GONE] + [loc['form']] * QUA, 'w')
+w.call('CalleeC 𝓤 H A mem run', 'known-callee', USE('to-callee'), [loc['v-' + t] for t in GONE] + [loc['goal']] * QUA, 'w')
 w.put(f'use1 W (later (some (λ (r : {RES}). some (Said{FO} w r)))) (callee-said{FV} w) $ await ! tt $ '); w.lam('pick !', 'r'); w.lam('pick !', 'zs'); w.lam('learn !', 'f')
 w.head(1, 'left'); w.nl()
 w.land(loc['r'], f'(EL.lawful {RN}.the-type {RN}′.the-laws 𝓤 H A W tt .typed r _ (f .0) .0)')
@@ -112,48 +116,49 @@ w.lam(f'calls-at ! fm (TellC 𝓤 H A mem run) known-tell (to-tell r w) {w.opds(
 w.put('use1 W (later (some (λ (k : ℕ). some (Told r u k)))) (tell-said r w u) $ await ! tt $ '); w.lam('pick !', 'k'); w.lam('pick !', 'vs'); w.lam('learn !', 'g')
 w.head(1, 'given'); w.splits('κt', 'ft')
 w.land(0, '(uint-lawful 𝓤 H A W w64 .typed k _ (g .0) .0)')
-w.leave(['left', 'κt', 'ft'], 'exits ' + 'form ef ' * QUA + 'w r zs u k vs f g')
+w.leave(['left', 'κt', 'ft'], 'exits ' + 'goal ef ' * QUA + 'w r zs u k vs f g')
 WALK = w.text()
 
 LFTS = tup([K(t) for t in NP]); SHRS = tup([Q(t) for t in NP])
 TL = tup([K(t) for t in GONE]); TQ = tup([Q(t) for t in GONE])
-TARGS = tup([VAR[t] for t in GONE] + ['form'] * QUA); TVALS = tup([f'at {VAR[t]} ∷ []' for t in GONE] + ['vf ∷ []'] * QUA)
+TARGS = tup([VAR[t] for t in GONE] + ['goal'] * QUA); TVALS = tup([f'at {VAR[t]} ∷ []' for t in GONE] + ['vf ∷ []'] * QUA)
 TELLARGS = tup(['told', 'r'] + ([] if REP else ['0'])); TELLVALS = tup(['at told ∷ []', 'w ∷ []'] + ([] if REP else ['vint w64 0 ∷ []']))
 TELLLASTS = prod(['List ℕ', 'Unit {0}'] + ([] if REP else ['Unit {0}']), 'Unit {0}')
-ARGTY = prod([f'RefT ({lists(t)})' for t in NP] + ['ℕ'] * QUA, 'Unit {0}')
+ARGTY = prod([f'RefT ({lists(t)})' for t in NP] + ['ℕ'] * len(PLAIN), 'Unit {0}')
 VALTY = prod(['List Val'] * p, 'Unit {0}')
 SRC = '(shrSliceOf (0 ∷ []) tt (plain (λ _. u8))) yes'
-STAYED = tup([f'stay-dropped {SRC}'] + [f'gave-slice ({i} ∷ []) tt (plain (λ _. {P[i][1]}))' for i in range(1, n)] + ['stay-none (λ _. usize) yes'] * QUA)
-GOS = tup([f'goes-dropped 𝓤 H A W {n} {SRC} (λ κs x f. refl)'] + [f'goes-gave-slice 𝓤 H A W {n} {i} tt (plain (λ _. {P[i][1]}))' for i in range(1, n)] + [f'goes-none 𝓤 H A W {n} (λ _. usize) yes (λ κs x f. refl)'] * QUA)
-ENDS = tup(['tt'] + [Z(t) for t in SAID] + ['vs'] + ['tt'] * QUA)
-FITS = tup(['tt'] + [f'f{proj(i + 1)}' for i in range(len(SAID))] + ['g .1 .0'] + ['tt'] * QUA)
-LAWARGS = f'(src .now) ' + 'places ' * QUA + f'{ENTRY} {EXIT} ' + (f'(out .now) ({Z("out")}) ' if REP else '') + f'(told .now) vs ' + 'form ' * QUA + 'r k ' + 'ef ' * QUA + f'(f{" .1" * (1 + len(SAID))}) (g .1 .1)'
+STAYED = tup([f'stay-dropped {SRC}'] + [f'gave-slice ({i} ∷ []) tt (plain (λ _. {P[i][1]}))' for i in range(1, n)] + [f'stay-none (λ _. {t}) yes' for q, t in PLAIN])
+GOS = tup([f'goes-dropped 𝓤 H A W {n} {SRC} (λ κs x f. refl)'] + [f'goes-gave-slice 𝓤 H A W {n} {i} tt (plain (λ _. {P[i][1]}))' for i in range(1, n)] + [f'goes-none 𝓤 H A W {n} (λ _. {t}) yes (λ κs x f. refl)' for q, t in PLAIN])
+ENDS = tup(['tt'] + [Z(t) for t in SAID] + ['vs'] + ['tt'] * len(PLAIN))
+FITS = tup(['tt'] + [f'f{proj(i + 1)}' for i in range(len(SAID))] + ['g .1 .0'] + ['tt'] * len(PLAIN))
+LAWARGS = f'(src .now) ' + ''.join(p + ' ' for p in PLAINS) + f'{ENTRY} {EXIT} ' + (f'(out .now) ({Z("out")}) ' if REP else '') + f'(told .now) vs ' + 'goal ' * QUA + 'r k ' + 'ef ' * QUA + f'(f{" .1" * (1 + len(SAID))}) (g .1 .1)'
 MAKES = iso(f'{RN}.the-row', f'EL.makes {RN}.the-type {RN}′.the-plain 𝓤 H A', 'r', 'is')
 ZERO = iso('usize', 'uint-makes 𝓤 H A W w64', '0', '(refl, lit< tt)')
 g_tell = goal_emp(['κ', 'sl'], [('*', ('*', 'κ', TRUE), ('f', 'sl', ('f', ('new', MAKES), TRUE if REP else ('f', ('new', ZERO), TRUE))))])
-CALLEES = [('lines_of', 'lines', 'LinesC')] * QUA + [(callee, 'callee', 'CalleeC'), (teller, 'tell', 'TellC')]
-g_lines = goal_emp([], [('*', TRUE, ('f', ('new', MAKE_PLACES[:-3]), TRUE))])
+CALLEES = [(maker, 'make', 'MakeC')] * QUA + [(callee, 'callee', 'CalleeC'), (teller, 'tell', 'TellC')]
+def chain(xs): return ('f', xs[0], chain(xs[1:])) if xs else TRUE
+g_make = goal_emp([], [('*', TRUE, chain([('new', iso(t, 'uint-makes 𝓤 H A W w64', q, 'is-' + q)) for q, t in PLAIN]))])
 KNOWN = ' '.join(f'(known-{a} : Triple 𝓤 (C #{key(f)}) ({c} 𝓤 H A mem run))' for f, a, c in CALLEES)
 KARR = lambda C: ' → '.join(f'Triple 𝓤 ({C} #{key(f)}) ({c} 𝓤 H A mem run)' for f, a, c in CALLEES)
 KN = ' '.join(f'known-{a}' for f, a, c in CALLEES)
 CT = lambda f, a, c: f'(cited 𝓤 H ({c} 𝓤 H (𝓖 .A) (𝓜 .mem) (𝓡 .run)) 𝓜 𝓡 code.env #{key(f)} {a}-def.routine code.calls-{key(f)} ({a}-thm.met 𝓤 H 𝓜 𝓖 𝓡))'
-LINESC = '' if not QUA else '''
-  -- the contract of `lines_of`
-  abbrev LinesC : Contract 𝓤
-  LinesC = tripleOf 𝓤 H A lines.signature (lines.spec 𝓤 H A mem run)
+MAKEC = '' if not QUA else f'''
+  -- the contract of `{maker}`
+  abbrev MakeC : Contract 𝓤
+  MakeC = tripleOf 𝓤 H A make.signature (make.spec 𝓤 H A mem run)
 
-  -- of `lines_of`'s `ensured`, the clause alone
-  lines-is : (places : ℕ) (form : Lines) → ent 𝓤 (ensured 𝓤 H A lines.ended (lines.clauses 𝓤 H A mem run) tt (places, tt) tt form) (fact 𝓤 (form ≡ linesOf places))
-  lines-is places form = exE 𝓤 _ (λ ws. snd∗ 𝓤 (sem 𝓤 H A (lasts lines.ended tt (places, tt) ws)) (fact 𝓤 (form ≡ linesOf places)))
+  -- of `{maker}`'s `ensured`, the clause alone
+  make-is : ({" ".join(PLAINS)} : ℕ) (goal : Sought) → ent 𝓤 (ensured 𝓤 H A make.ended (make.clauses 𝓤 H A mem run) tt {tup(PLAINS)} tt goal) (fact 𝓤 (goal ≡ {SOUGHT}))
+  make-is {" ".join(PLAINS)} goal = exE 𝓤 _ (λ ws. snd∗ 𝓤 (sem 𝓤 H A (lasts make.ended tt {tup(PLAINS)} ws)) (fact 𝓤 (goal ≡ {SOUGHT})))
 '''
-LINESG = '' if not QUA else f'''
-  -- what `lines_of`'s triple binds outside
-  abbrev to-lines : LinesC 𝓤 H A mem run .Ghost
-  to-lines = ((tt, tt, tt, (places, tt), (vint w64 places ∷ [], tt)), tt)
+MAKEG = '' if not QUA else f'''
+  -- what `{maker}`'s triple binds outside
+  abbrev to-make : MakeC 𝓤 H A mem run .Ghost
+  to-make = ((tt, tt, tt, {tup(PLAINS)}, {tup([f'vint w64 {q} ∷ []' for q in PLAINS])}), tt)
 
-  -- what `lines_of` asks is had for nothing
-  goes-lines : ent 𝓤 (emp 𝓤) (LinesC 𝓤 H A mem run .pre to-lines)
-  goes-lines = qed W [] ∵ {g_lines}
+  -- what `{maker}` asks is had for nothing
+  goes-make : ent 𝓤 (emp 𝓤) (MakeC 𝓤 H A mem run .pre to-make)
+  goes-make = qed W [] ∵ {g_make}
 '''
 APART = f'''  -- what is given up to `{callee}`: tokens and slices
   abbrev mine : List (Item 𝓤)
@@ -171,11 +176,11 @@ APART = f'''  -- what is given up to `{callee}`: tokens and slices
       mine kept {PI_APART} refl
 
   -- what `{callee}` asks
-  goes-callee : (form : Lines) (vf : Val) → Is L.the-row form (vf ∷ []) → ent 𝓤 (⋆ 𝓤 H A (raw (⋆ 𝓤 H A mine) ∷ [])) (CalleeC 𝓤 H A mem run .pre (to-callee form vf))
-  goes-callee form vf is-form =
+  goes-callee : (goal : Sought) (vf : Val) → Is L.the-row goal (vf ∷ []) → ent 𝓤 (⋆ 𝓤 H A (raw (⋆ 𝓤 H A mine) ∷ [])) (CalleeC 𝓤 H A mem run .pre (to-callee goal vf))
+  goes-callee goal vf is-goal =
       qed W (raw (⋆ 𝓤 H A mine) ∷ []) ∵
-      nothing ! $ nothing ! $ {MAKE_FORM} $ move ! (3 ∷ []) $ by ! (via 𝓤 _ (sorts 𝓤 H A mine
-      ({items(FORMI + [TRUES, TRUES])})
+      nothing ! $ nothing ! $ {MAKE_GOAL} $ move ! (3 ∷ []) $ by ! (via 𝓤 _ (sorts 𝓤 H A mine
+      ({items(GOALI + [TRUES, TRUES])})
       ({items(ASK_T)})
       ({items(ASK_O)}) {PI_GOES} refl) (alone 𝓤 H A _))
 ''' if QUA else f'''  -- what `{callee}` asks: the tokens, and the slices
@@ -215,26 +220,26 @@ module _ {{M : Type 1}} (𝓤 : URA M) (H : Heap 𝓤) (A : Atoms 𝓤) (mem : M
   -- the contract of `{teller}`
   abbrev TellC : Contract 𝓤
   TellC = tripleOf 𝓤 H A tell.signature (tell.spec 𝓤 H A mem run)
-{LINESC}
+{MAKEC}
 module _ {{M : Type 1}} (𝓤 : URA M) (H : Heap 𝓤) (A : Atoms 𝓤) (W : Given 𝓤 H A) (mem : Memory → SProp 𝓤) (run : Routine → Fun 𝓤) ({" ".join(K(t) for t in NP)} : Lft) ({" ".join(Q(t) for t in NP)} : Share)
     ({" ".join(VAR[t] for t in NP if t != "errors")} : RefT (List ℕ)) (errors : RefT (List ErrorRow))
-    {' '.join(f'(room-{t} : Room {el[t]} (length ({VAR[t]} .now)))' for t in NP)}{' (places : ℕ) (is-places : Is usize places (vint w64 places ∷ []))' * QUA} where
+    {' '.join(f'(room-{t} : Room {el[t]} (length ({VAR[t]} .now)))' for t in NP)}{''.join(f' ({q} : ℕ) (is-{q} : Is {t} {q} (vint w64 {q} ∷ []))' for q, t in PLAIN)} where
   -- the arguments' type
   abbrev Arg : Type 0
   Arg = {ARGTY}
 
   -- the arguments
   abbrev a : Arg
-  a = {tup([VAR[t] for t in NP] + PLACES)}
+  a = {tup([VAR[t] for t in NP] + PLAINS)}
 
   -- their machine values
   abbrev vals : {VALTY}
-  vals = {tup([f'at {VAR[t]} ∷ []' for t in NP] + ['vint w64 places ∷ []'] * QUA)}
+  vals = {tup([f'at {VAR[t]} ∷ []' for t in NP] + [f'vint w64 {q} ∷ []' for q in PLAINS])}
 
   -- what the walk ends in
   abbrev Post : Val → SProp 𝓤
   Post = walkOf 𝓤 H A {EX}.ended stayed ({EX}.clauses 𝓤 H A mem run) .post (({LFTS}, {SHRS}, tt, a, vals), tt)
-{LINESG}
+{MAKEG}
   -- what `{callee}`'s triple binds outside
   abbrev to-callee : {FSIG}CalleeC 𝓤 H A mem run .Ghost
   to-callee{FV} = (({TL}, {TQ}, tt, {TARGS}, {TVALS}), tt)
@@ -288,12 +293,12 @@ module _ {{M : Type 1}} (𝓤 : URA M) (H : Heap 𝓤) (A : Atoms 𝓤) (W : Giv
       at-once ! $ show ! (λ (k′ : ℕ). mean 𝓤 H A (some (Told r u k′))) k $ show ! (λ (vs : List ℕ). mean 𝓤 H A (Told r u k vs)) (ws .0) $ checks ! (is, (l, e)) $ keep ! (0 ∷ 2 ∷ []) $ done !)))))
 
   -- the exit
-  exits : {'(form : Lines) → form ≡ linesOf places → ' * QUA}(w : Val) (r : {RES}) (zs : Lasts) (u : Val) (k : ℕ) (vs : List ℕ) → Facts{FO} w r zs → Facts-told r u k vs → ent 𝓤 (⋆ 𝓤 H A (raw (⋆ 𝓤 H A (left zs)) ∷ {tok('told')} ∷ {FT} ∷ [])) (Post u)
-  exits {'form ef ' * QUA}w r zs u k vs f g =
+  exits : {f'(goal : Sought) → goal ≡ {SOUGHT} → ' * QUA}(w : Val) (r : {RES}) (zs : Lasts) (u : Val) (k : ℕ) (vs : List ℕ) → Facts{FO} w r zs → Facts-told r u k vs → ent 𝓤 (⋆ 𝓤 H A (raw (⋆ 𝓤 H A (left zs)) ∷ {tok('told')} ∷ {FT} ∷ [])) (Post u)
+  exits {'goal ef ' * QUA}w r zs u k vs f g =
       qed W (raw (⋆ 𝓤 H A (left zs)) ∷ {tok('told')} ∷ {FT} ∷ []) ∵
-      suffices ! _ (ends-at 𝓤 H A {EX}.ended stayed ({EX}.clauses 𝓤 H A mem run) W (({LFTS}, {SHRS}, tt, a, vals), tt) u k {ENDS} {FITS}) $ says ! ({callee}-law {LAWARGS}) $
-      nothing ! $ nothing ! $ nothing ! $ {iso('usize', 'uint-makes 𝓤 H A W w64', 'k', '(g .0)')} $ {MAKE_PLACES}move ! {lst(range(4 + QUA, 7 + QUA))} $ by ! (sorts3 𝓤 H A (left zs)
-      ({items([tok('told'), FT] + PLACESI + [RESI, TRUES, TRUES, TRUES])})
+      suffices ! _ (ends-at 𝓤 H A {EX}.ended stayed ({EX}.clauses 𝓤 H A mem run) W (({LFTS}, {SHRS}, tt, a, vals), tt) u k {ENDS} {FITS}) $ says ! ({which}-law {LAWARGS}) $
+      nothing ! $ nothing ! $ nothing ! $ {iso('usize', 'uint-makes 𝓤 H A W w64', 'k', '(g .0)')} $ {MAKE_PLAINS}move ! {lst(range(4 + len(PLAIN), 7 + len(PLAIN)))} $ by ! (sorts3 𝓤 H A (left zs)
+      ({items([tok('told'), FT] + PLAINI + [RESI, TRUES, TRUES, TRUES])})
       ({items(EXIT_T)})
       ({items(EXIT_F)}) ({RESI} ∷ []) {PI_EXIT} refl)
 
@@ -308,9 +313,9 @@ module _ {{M : Type 1}} (𝓤 : URA M) (H : Heap 𝓤) (A : Atoms 𝓤) (W : Giv
   -- the walk, at each choice of lifetimes and arguments
   {callee}-walks : (C : Calls 𝓤 H) (Λ : Loops 𝓤 H) → FmC 𝓤 H (W .laws) C → {KARR('C')} → Walks 𝓤 H A {EX}.ended stayed (WpFn 𝓤 H C Λ code.function) ({EX}.clauses 𝓤 H A mem run)
   {callee}-walks C Λ fm {KN} = walked 𝓤 H A {EX}.ended stayed ({EX}.clauses 𝓤 H A mem run) (WpFn 𝓤 H C Λ code.function)
-      (λ κs. {tup(['slice-vals'] * n + ['uint-vals w64'] * QUA)}) (λ κs. {tup([f'{"shr" if t == "s" else "mut"}-slice-tells (named {i}) (κs{proj(i)}) {el[t]}' for i, t in enumerate(NP)] + ['uint-tells w64'] * QUA)})
+      (λ κs. {tup(['slice-vals'] * n + ['uint-vals w64'] * len(PLAIN))}) (λ κs. {tup([f'{"shr" if t == "s" else "mut"}-slice-tells (named {i}) (κs{proj(i)}) {el[t]}' for i, t in enumerate(NP)] + ['uint-tells w64'] * len(PLAIN))})
       (λ κs qs bounds a g are. via 𝓤 _ (fst∗ 𝓤 _ (emp 𝓤)) (walk 𝓤 H A W mem run {' '.join(f'(κs{proj(i)})' for i in range(n))} {' '.join(f'(qs{proj(i)})' for i in range(n))}
-      {' '.join(f'(a{proj(i)})' for i in range(n) if NP[i] != 'errors')} (a{proj(idx['errors'])}) {' '.join(f'(are{proj(i)} .0 .1)' for i in range(n))}{f' (a{proj(n)}) (are{proj(n)})' * QUA} C Λ fm {KN}))
+      {' '.join(f'(a{proj(i)})' for i in range(n) if NP[i] != 'errors')} (a{proj(idx['errors'])}) {' '.join(f'(are{proj(i)} .0 .1)' for i in range(n))}{''.join(f' (a{proj(n + i)}) (are{proj(n + i)})' for i in range(len(PLAIN)))} C Λ fm {KN}))
 
 -- the function's MIR meets the contract
 {callee}-meets : {{M : Type 1}} (𝓤 : URA M) (H : Heap 𝓤) (A : Atoms 𝓤) → Given 𝓤 H A → (mem : Memory → SProp 𝓤) (run : Routine → Fun 𝓤) (𝓣 : Tables 𝓤 H) → {KARR('𝓣 .C')}
@@ -327,13 +332,13 @@ unfolding code.routine tablesOf
     (tables-of 𝓤 H 𝓜 𝓡 code.env .C) (tables-of 𝓤 H 𝓜 𝓡 code.env .Λ) #{key(fn)} code.function (code.unfolded 𝓤 H 𝓜 𝓡)
     ({callee}-meets 𝓤 H (𝓖 .A) (givenOf 𝓤 H 𝓜 𝓖) (𝓜 .mem) (𝓡 .run) (tablesOf 𝓤 H 𝓜 (tables-of 𝓤 H 𝓜 𝓡 code.env))
 ''' + '\n'.join('    ' + CT(*x) for x in CALLEES) + ')\n'
-top = f'''-- `{CR}::{fn}` meets its contract: a walk of its MIR, by hand. All that it knows of {'`lines_of`, ' * QUA}`{callee}` and `{teller}` is that each meets its contract. Assumes nothing.
--- Every slice but `told` is given up to `{callee}` for good, and then `told` to `{teller}`. The walk ends in `{callee}-law` of the laws, and reads no definition that a contract cites.
+top = f'''-- `{CR}::{fn}` meets its contract: a walk of its MIR, by hand. All that it knows of {f'`{maker}`, ' * QUA}`{callee}` and `{teller}` is that each meets its contract. Assumes nothing.
+-- Every slice but `told` is given up to `{callee}` for good, and then `told` to `{teller}`. The walk ends in `{which}-law` of the laws, and reads no definition that a contract cites.
 '''
-crate = spec(*(['told as quarreled', 'quarrelOf', 'quarrelNumber', 'quarrelNumbers', 'linesOf'] if QUA else ['told as reported', 'reportOf', 'checkedAnswer', 'reportNumber', 'textLength'] if REP else ['held', 'answerNumber', 'checkOf']), 'lent', *([] if QUA else ['toldNumbers']), 'numberTold') + den('ErrorRow') + den(RES) + (den('Lines') if QUA else '') + f'use {ty("ErrorRow")} as E\nuse {ty(RES)} as {RN}\nuse {ty(RES)}.Laws as {RN}′\n' + (f'use {ty("Lines")} as L\nuse {ty("Lines")}.Laws as L′\n' if QUA else '') + f'''use lib.Seq.{{sets}}
+crate = spec(*(['told as quarreled', 'quarrelOf', 'quarrelNumber', 'quarrelNumbers', 'linesOf', {'quarrel': 'Minimal', 'shortest': 'Shortest'}[which]] if QUA else ['told as reported', 'reportOf', 'checkedAnswer', 'reportNumber', 'textLength'] if REP else ['held', 'answerNumber', 'checkOf']), 'lent', *([] if QUA else ['toldNumbers']), 'numberTold') + den('ErrorRow') + den(RES) + (den('Sought') if QUA else '') + f'use {ty("ErrorRow")} as E\nuse {ty(RES)} as {RN}\nuse {ty(RES)}.Laws as {RN}′\n' + (f'use {ty("Sought")} as L\nuse {ty("Sought")}.Laws as L′\n' if QUA else '') + f'''use lib.Seq.{{sets}}
 use Rattle.lending.specs.Sorts.{{{'sorts, ' * QUA}sorts3, alone}}
 use Rattle.lending.specs.Frees.{{full, frees-all}}
 use Rattle.checker.specs.Handing.{{at}}
-use Rattle.{CR}.proofs.{LAW[CR]}.{{{callee}-law}}
+use Rattle.{CR}.proofs.{LAW[CR]}.{{{which}-law}}
 ''' + cites([(f, a) for f, a, c in CALLEES]) + self(fn, EX)
 print(tidy(top + uses(body) + crate + body), end='')

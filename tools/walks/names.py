@@ -1,10 +1,10 @@
 # Where the functions, types and definitions that the walks name stand, and the imports of a proof.
 import re
 # the crate of each function, and of each declared type
-FN = {'errors_used': 'answers', 'errors_end': 'answers', 'fill_errors': 'errors', 'end_memory': 'answers', 'hand_errors': 'answers', 'check_tables': 'checker', 'check': 'checker', 'report_tables': 'report', 'answer_of': 'report_text', 'report': 'report', 'tell': 'told', 'tell_report': 'told', 'nunthila_check': 'nunthila', 'nunthila_report': 'nunthila', 'quarrel_tables': 'conflict_check', 'checked_answer': 'conflict_check', 'quarrel': 'conflict_check', 'lines_of': 'conflict_told', 'tell_quarrel': 'conflict_told', 'nunthila_quarrel': 'nunthila'}
-TY = {'ErrorRow': 'errors', 'Answer': 'answers', 'Reported': 'report_text', 'Quarreled': 'conflict_check', 'Lines': 'conflict_set'}
+FN = {'errors_used': 'answers', 'errors_end': 'answers', 'fill_errors': 'errors', 'end_memory': 'answers', 'hand_errors': 'answers', 'check_tables': 'checker', 'check': 'checker', 'report_tables': 'report', 'answer_of': 'report_text', 'report': 'report', 'tell': 'told', 'tell_report': 'told', 'nunthila_check': 'nunthila', 'nunthila_report': 'nunthila', 'quarrel_tables': 'conflict_check', 'checked_answer': 'conflict_check', 'quarrel': 'conflict_check', 'minimal': 'conflict_told', 'shortest': 'conflict_told', 'nunthila_shortest': 'nunthila', 'tell_quarrel': 'conflict_told', 'nunthila_quarrel': 'nunthila'}
+TY = {'ErrorRow': 'errors', 'Answer': 'answers', 'Reported': 'report_text', 'Quarreled': 'conflict_check', 'Sought': 'conflict_set'}
 # the module of specs/ that has each definition which a contract cites
-SPEC = {'filledTo': 'errors.Rows', 'rowIn': 'errors.Rows', 'HandsErrors': 'answers.Parts', 'errorsUsed': 'answers.Lent', 'errorsEnd': 'answers.Lent', 'memoryEnded': 'answers.Lent', 'lent as lentTables': 'answers.Lent', 'TablesChecked': 'checker.Parts', 'TablesReported': 'report.Parts', 'TablesQuarreled': 'conflict_check.Parts', 'checkedAnswer of quarrel': 'conflict_check.Quarrel', 'told as quarreled': 'conflict_check.Quarrel', 'quarrelOf': 'conflict_check.Quarrel', 'quarrelNumber': 'conflict_check.Quarrel', 'linesOf': 'conflict_told.Numbers', 'quarrelNumbers': 'conflict_told.Numbers', 'checkedAnswer': 'report_text.Written', 'lent': 'answers.Lent', 'held': 'answers.Lent', 'answerNumber': 'answers.Lent', 'checkOf': 'checker.Check', 'reportNumber': 'report_text.Written', 'told': 'report.Report', 'told as reported': 'report.Report', 'reportOf': 'report.Report', 'toldNumbers': 'told.Numbers', 'textLength': 'told.Numbers', 'numberTold': 'told.Numbers'}
+SPEC = {'Minimal': 'conflict_set.declared.Sought.the-variants', 'Shortest': 'conflict_set.declared.Sought.the-variants', 'filledTo': 'errors.Rows', 'rowIn': 'errors.Rows', 'HandsErrors': 'answers.Parts', 'errorsUsed': 'answers.Lent', 'errorsEnd': 'answers.Lent', 'memoryEnded': 'answers.Lent', 'lent as lentTables': 'answers.Lent', 'TablesChecked': 'checker.Parts', 'TablesReported': 'report.Parts', 'TablesQuarreled': 'conflict_check.Parts', 'checkedAnswer of quarrel': 'conflict_check.Quarrel', 'told as quarreled': 'conflict_check.Quarrel', 'quarrelOf': 'conflict_check.Quarrel', 'quarrelNumber': 'conflict_check.Quarrel', 'linesOf': 'conflict_told.Numbers', 'quarrelNumbers': 'conflict_told.Numbers', 'checkedAnswer': 'report_text.Written', 'lent': 'answers.Lent', 'held': 'answers.Lent', 'answerNumber': 'answers.Lent', 'checkOf': 'checker.Check', 'reportNumber': 'report_text.Written', 'told': 'report.Report', 'told as reported': 'report.Report', 'reportOf': 'report.Report', 'toldNumbers': 'told.Numbers', 'textLength': 'told.Numbers', 'numberTold': 'told.Numbers'}
 LAW = {'answers': 'Laws', 'checker': 'Laws', 'report': 'ReportLaws', 'conflict_check': 'QuarrelLaws', 'nunthila': 'ToldLaws'}
 
 def mod(CR, f): return f'Rattle.{CR}.proofs.{f}' if FN[f] == CR else f'Rattle.{FN[f]}.proofs.{f}'
@@ -16,7 +16,7 @@ def spec(CR, *ns):
     for n in ns: out.setdefault(SPEC[n], []).append(n.split(' of ')[0])
     r = ''
     for m, v in out.items():
-        c, x = m.split('.')
+        c, x = m.split('.', 1)
         r += (f'use Rattle.{CR}.specs.{x}' if c == CR else f'use Rattle.{c}.specs.{x}') + f'.{{{", ".join(v)}}}\n'
     return r
 def cites(CR, pairs):
@@ -49,7 +49,7 @@ use sound.WpLaws.{FmC, fmOf, WpFn-mono}
 use denote.RattleType.{RattleType, owns}
 use denote.Laws.{Is, Makes, shows}
 use denote.Plain.{uint-makes, uint-lawful, uint-vals, uint-tells}
-use denote.Builtin.{u8, u16, usize, unit}
+use denote.Builtin.{u8, u16, u64, usize, unit}
 use denote.Array.{Array, array-typed, array-makes}
 use denote.Ref.{RefT}
 use denote.Slice.{sliceVal, MutSlice, ShrSlice, Room, finally, slice-vals, mut-slice-tells, shr-slice-tells}

@@ -35,7 +35,7 @@ use Rattle.checker.specs.Parts.{TablesChecked, EndedAs, WalkChecked}
 use Rattle.checker.specs.declared.Ended.{Ended}
 use Rattle.conflict_theory.specs.Worked.{None13}
 use Rattle.conflict_theory.specs.Thirteen.{ZeroOr12}
-use Rattle.conflict_set.specs.declared.Lines.{Lines}
+use Rattle.conflict_set.specs.declared.Sought.{Sought}
 use Rattle.conflict_set.specs.declared.Outcome.{Outcome}
 use Rattle.conflict_set.specs.declared.Outcome.the-variants as outcome
 use Rattle.conflict_set.specs.In.{Whole, Kept}
@@ -53,14 +53,14 @@ pub refuses : (a : Answer) (x : List ℕ) (o : Outcome) (y : List ℕ) → outco
 unfolding toldOf
 refuses a x o y e = record { by = ap (λ (w : OutcomeTold). said (Refused a) (w .bytes)) e }
 
-pub finds : (a : Answer) (c : Record) (l : Lines) (m x w : List ℕ) (o : Outcome) (r : Quarreled) (y : List ℕ) → ConflictBy m (c .counts) (c .equations) l x w o y → r ≡ quarreledBy a o → Finds a c l m x w r y
-finds a c l m x w o r y f e = record { by = λ h k. let g = f .by h k in (g .0, rw e (ap (λ (t : OutcomeTold). said (quarreledBy a (t .answer)) (t .bytes)) (g .1))) }
+pub finds : (a : Answer) (c : Record) (sought : Sought) (m x w : List ℕ) (o : Outcome) (r : Quarreled) (y : List ℕ) → ConflictBy m (c .counts) (c .equations) sought x w o y → r ≡ quarreledBy a o → Finds a c sought m x w r y
+finds a c sought m x w o r y f e = record { by = λ h k. let g = f .by h k in (g .0, rw e (ap (λ (t : OutcomeTold). said (quarreledBy a (t .answer)) (t .bytes)) (g .1))) }
 
-pub as-open : (a b : Answer) (c : Record) (l : Lines) (m x w : List ℕ) (r : Quarreled) (y : List ℕ) → a ≡ b → isOpen b ≡ true → Finds b c l m x w r y → ConflictAs a c l m x w r y
-as-open a b c l m x w r y e o q = record { by = rw (e, o) q }
+pub as-open : (a b : Answer) (c : Record) (sought : Sought) (m x w : List ℕ) (r : Quarreled) (y : List ℕ) → a ≡ b → isOpen b ≡ true → Finds b c sought m x w r y → ConflictAs a c sought m x w r y
+as-open a b c sought m x w r y e o q = record { by = rw (e, o) q }
 
-pub as-shut : (a b : Answer) (c : Record) (l : Lines) (m x : List ℕ) (r : Quarreled) (y : List ℕ) → a ≡ b → isOpen b ≡ false → Refuses b x r y → ConflictAs a c l m x m r y
-as-shut a b c l m x r y e o q = record { by = rw (e, o) (q, refl) }
+pub as-shut : (a b : Answer) (c : Record) (sought : Sought) (m x : List ℕ) (r : Quarreled) (y : List ℕ) → a ≡ b → isOpen b ≡ false → Refuses b x r y → ConflictAs a c sought m x m r y
+as-shut a b c sought m x r y e o q = record { by = rw (e, o) (q, refl) }
 
 -- ── the errors of the walk stay ──
 
@@ -129,13 +129,13 @@ said-answer true a t x = by (toldOf t x .answer)
     by outcome.NoRoom = refl
 
 -- what was said, and the tables of the check
-quarrel-as : (s : List ℕ) (lines : Lines) (l m : Lent) (x : List ℕ) (a : Answer) (r : Quarreled) (y : List ℕ) → held a m ≡ checkOf s l → said r y ≡ saidBy (isOpen a) a (quarrelText lines s) x → told r m y ≡ quarrelOf s lines l x
+quarrel-as : (s : List ℕ) (sought : Sought) (l m : Lent) (x : List ℕ) (a : Answer) (r : Quarreled) (y : List ℕ) → held a m ≡ checkOf s l → said r y ≡ saidBy (isOpen a) a (quarrelText sought s) x → told r m y ≡ quarrelOf s sought l x
 unfolding quarrelOf
-quarrel-as s lines l m x a r y p q = rw (← p) (ap (λ (w : Said). told (w .answer) m (w .output)) q)
+quarrel-as s sought l m x a r y p q = rw (← p) (ap (λ (w : Said). told (w .answer) m (w .output)) q)
 
-module _ (s : List ℕ) (n : ℕ) (lines : Lines) (l : Lent) (x : List ℕ) (e : Ended) (u : Lent) (checked : WalkChecked s n l e u) (size : length (u .memory) ≡ length (l .memory)) (w : List ℕ) (r : Quarreled) (y : List ℕ) where
+module _ (s : List ℕ) (n : ℕ) (sought : Sought) (l : Lent) (x : List ℕ) (e : Ended) (u : Lent) (checked : WalkChecked s n l e u) (size : length (u .memory) ≡ length (l .memory)) (w : List ℕ) (r : Quarreled) (y : List ℕ) where
   -- on 0 and 12
-  module _ (o : isOpen (e .answer) ≡ true) (f : Finds (e .answer) (e .record) lines (u .memory) x w r y) where
+  module _ (o : isOpen (e .answer) ≡ true) (f : Finds (e .answer) (e .record) sought (u .memory) x w r y) where
     ended : Open s (e .record) (u .memory)
     ended = open-ended s (e .answer) (e .record) (u .memory) o (checked .ended)
 
@@ -165,36 +165,36 @@ module _ (s : List ℕ) (n : ℕ) (lines : Lines) (l : Lent) (x : List ℕ) (e :
     whole : Whole (u .memory) (e .record .counts)
     whole = claims.whole (u .memory) (e .record) last (ended .2) room claim calm placed
 
-    found : Kept (u .memory) (e .record .counts) w × (said r y ≡ saidBy true (e .answer) (conflictText (u .memory) (e .record .counts) (e .record .equations) lines) x)
+    found : Kept (u .memory) (e .record .counts) w × (said r y ≡ saidBy true (e .answer) (conflictText (u .memory) (e .record .counts) (e .record .equations) sought) x)
     found = f .by whole (omega (arith, few, ended .2 .equations))
 
-    text : conflictText (u .memory) (e .record .counts) (e .record .equations) lines ≡ quarrelText lines s
-    text = claims.text-is (u .memory) (e .record) last (ended .2) room claim calm placed lines ∙ sym (ap (λ (z : Option State). textOf lines (typesIn z) (kindsIn z) (equationsIn z)) (state-is s (ended .0) (ended .1)))
+    text : conflictText (u .memory) (e .record .counts) (e .record .equations) sought ≡ quarrelText sought s
+    text = claims.text-is (u .memory) (e .record) last (ended .2) room claim calm placed sought ∙ sym (ap (λ (z : Option State). textOf sought (typesIn z) (kindsIn z) (equationsIn z)) (state-is s (ended .0) (ended .1)))
 
-    said-open : said r y ≡ saidBy (isOpen (e .answer)) (e .answer) (quarrelText lines s) x
+    said-open : said r y ≡ saidBy (isOpen (e .answer)) (e .answer) (quarrelText sought s) x
     said-open = rw o (found .1 ∙ ap (λ t. saidBy true (e .answer) t x) text)
 
     tables-open : (d : List ErrorRow) → length d ≡ n → held (e .answer) (handedWith (e .answer) d (withMemory u w)) ≡ checkOf s (lentWith d l)
     tables-open d z = let h = handed-kept (u .memory) w (e .record .counts) whole (found .0) (e .answer) o d in rw (h .0, h .1) (checked .tables .with-errors d z)
 
   -- with any table of errors
-  joined : (v : Lent) → said r y ≡ saidBy (isOpen (e .answer)) (e .answer) (quarrelText lines s) x → ((d : List ErrorRow) → length d ≡ n → held (e .answer) (handedWith (e .answer) d v) ≡ checkOf s (lentWith d l))
-      → TablesQuarreled s n lines l x r v y
+  joined : (v : Lent) → said r y ≡ saidBy (isOpen (e .answer)) (e .answer) (quarrelText sought s) x → ((d : List ErrorRow) → length d ≡ n → held (e .answer) (handedWith (e .answer) d v) ≡ checkOf s (lentWith d l))
+      → TablesQuarreled s n sought l x r v y
   joined v q t = record {
     with-errors = λ d z.
-        let c : checkedAnswer r ≡ e .answer = ap (λ (w′ : Said). checkedAnswer (w′ .answer)) q ∙ said-answer (isOpen (e .answer)) (e .answer) (quarrelText lines s) x in
-        rw c (quarrel-as s lines (lentWith d l) (handedWith (e .answer) d v) x (e .answer) r y (t d z) q);
+        let c : checkedAnswer r ≡ e .answer = ap (λ (w′ : Said). checkedAnswer (w′ .answer)) q ∙ said-answer (isOpen (e .answer)) (e .answer) (quarrelText sought s) x in
+        rw c (quarrel-as s sought (lentWith d l) (handedWith (e .answer) d v) x (e .answer) r y (t d z) q);
   }
 
   -- by the answer
-  pub tables-law : ConflictAs (e .answer) (e .record) lines (u .memory) x w r y → TablesQuarreled s n lines l x r (withMemory u w) y
+  pub tables-law : ConflictAs (e .answer) (e .record) sought (u .memory) x w r y → TablesQuarreled s n sought l x r (withMemory u w) y
   tables-law a = by (isOpen (e .answer)) refl (a .by)
     where
-      by : (b : Bool) → isOpen (e .answer) ≡ b → ConflictIf b (e .answer) (e .record) lines (u .memory) x w r y → TablesQuarreled s n lines l x r (withMemory u w) y
+      by : (b : Bool) → isOpen (e .answer) ≡ b → ConflictIf b (e .answer) (e .record) sought (u .memory) x w r y → TablesQuarreled s n sought l x r (withMemory u w) y
       by true o h = joined (withMemory u w) (said-open o h) (tables-open o h)
       by false o h = joined (withMemory u w) (rw o (h .0 .by)) (λ d z. rw (h .1) (checked .tables .with-errors d z))
 
 -- with the errors and the memory that are handed back
-pub quarrel-law : (s : List ℕ) (e : List ErrorRow) (lines : Lines) (l : Lent) (o : List ℕ) (r : Quarreled) (u : Lent) (x : List ℕ) (d : Answer) (f : List ErrorRow) (v : List ℕ) → TablesQuarreled s (length e) lines l o r u x
-    → d ≡ checkedAnswer r → HandsErrors d e (u .memory) f v → told r (lent (u .rows) (u .cells) (u .nodes) (u .vars) (u .types) f (u .log) v) x ≡ quarrelOf s lines (lentWith e l) o
-quarrel-law s e lines l o r u x d f v p k h = rw (h .0, h .1, k) (p .with-errors e refl)
+pub quarrel-law : (s : List ℕ) (e : List ErrorRow) (sought : Sought) (l : Lent) (o : List ℕ) (r : Quarreled) (u : Lent) (x : List ℕ) (d : Answer) (f : List ErrorRow) (v : List ℕ) → TablesQuarreled s (length e) sought l o r u x
+    → d ≡ checkedAnswer r → HandsErrors d e (u .memory) f v → told r (lent (u .rows) (u .cells) (u .nodes) (u .vars) (u .types) f (u .log) v) x ≡ quarrelOf s sought (lentWith e l) o
+quarrel-law s e sought l o r u x d f v p k h = rw (h .0, h .1, k) (p .with-errors e refl)

@@ -10,7 +10,7 @@ use Rattle.answers.specs.Lent.{Lent, answerNumber, answerPlace}
 use Rattle.checker.specs.Check.{checkOf}
 use Rattle.checker.specs.File.{equationsOf, typesOf, kindsOf}
 use Rattle.output.specs.Output.{zeros}
-use Rattle.conflict_set.specs.declared.Lines.{Lines}
+use Rattle.conflict_set.specs.declared.Sought.{Sought}
 use Rattle.conflict_set.specs.declared.Outcome.{Outcome}
 use Rattle.conflict_set.specs.declared.Outcome.the-variants as outcome
 use Rattle.conflict_set.specs.Text.{textOf, toldOf}
@@ -81,12 +81,12 @@ abbrev pub told : Quarreled → Lent → List ℕ → Told
 told r l o = record { answer = r; number = quarrelNumber r; place = quarrelPlace r; tables = l; output = o }
 
 -- f)'s text of the file s; none is refusal 14
-abbrev pub quarrelText : Lines → List ℕ → Option (List ℕ)
-quarrelText lines s = textOf lines (typesOf s) (kindsOf s) (equationsOf s)
+abbrev pub quarrelText : Sought → List ℕ → Option (List ℕ)
+quarrelText sought s = textOf sought (typesOf s) (kindsOf s) (equationsOf s)
 
 -- `quarrel`: Check's own refusals other than 12, then 14, then 9; the tables are as `check` leaves them
-unfoldable pub quarrelOf : List ℕ → Lines → Lent → List ℕ → Told
-quarrelOf s lines l o =
+unfoldable pub quarrelOf : List ℕ → Sought → Lent → List ℕ → Told
+quarrelOf s sought l o =
     let h = checkOf s l in
-    let w = saidBy (isOpen (h .answer)) (h .answer) (quarrelText lines s) o in
+    let w = saidBy (isOpen (h .answer)) (h .answer) (quarrelText sought s) o in
     told (w .answer) (h .tables) (w .output)

@@ -7,6 +7,8 @@ use Rattle.checker.specs.Check.{checkOf}
 use Rattle.report_text.specs.Written.{checkedAnswer}
 use Rattle.report.specs.Report.{reportOf}
 use Rattle.told.specs.Numbers.{toldNumbers, textLength}
+use Rattle.conflict_set.specs.declared.Sought.{Sought}
+use Rattle.conflict_set.specs.declared.Sought.the-variants.{Minimal, Shortest}
 use Rattle.conflict_check.specs.Quarrel.{quarrelOf}
 use Rattle.conflict_told.specs.Numbers.{linesOf, quarrelNumbers}
 
@@ -39,8 +41,16 @@ reportTold s l o t =
     reporting (reportOf s l o .number) (reportOf s l o .tables) (reportOf s l o .output)
     (sets t 0 (toldNumbers (checkedAnswer (reportOf s l o .answer)) (textLength (reportOf s l o .answer))))
 
--- `nunthila_quarrel`: the papers' number, tables and output of `quarrel`, and the numbers of its answer
-unfoldable pub quarrelTold : List ℕ → ℕ → Lent → List ℕ → List ℕ → Reporting
-quarrelTold s n l o t =
-    let h = quarrelOf s (linesOf n) l o in
+-- the papers' number, tables and output of `quarrel`, and the numbers of its answer
+unfoldable pub soughtTold : List ℕ → Sought → Lent → List ℕ → List ℕ → Reporting
+soughtTold s q l o t =
+    let h = quarrelOf s q l o in
     reporting (h .number) (h .tables) (h .output) (sets t 0 (quarrelNumbers (h .answer)))
+
+-- `nunthila_quarrel`: of the minimal conflict, with lines by a number
+abbrev pub quarrelTold : List ℕ → ℕ → Lent → List ℕ → List ℕ → Reporting
+quarrelTold s n l o t = soughtTold s (Minimal (linesOf n)) l o t
+
+-- `nunthila_shortest`: of a shortest one, with b subsets that may be tested
+abbrev pub shortestTold : List ℕ → ℕ → ℕ → Lent → List ℕ → List ℕ → Reporting
+shortestTold s n b l o t = soughtTold s (Shortest (linesOf n) b) l o t

@@ -5,6 +5,7 @@
 use body_input::Input;
 use conflict_check::Quarreled;
 use conflict_set::Lines;
+use conflict_set::Sought;
 
 // ── arguments ──
 
@@ -88,7 +89,7 @@ fn run(s: &[u8], l: Lines) {
         &mut log,
         &mut memory,
         &mut out,
-        l,
+        Sought::Minimal(l),
     );
     put_answer(r, &out);
 }

@@ -4,6 +4,7 @@
 use body_text::Room;
 use conflict_check::Quarreled;
 use conflict_set::Lines;
+use conflict_set::Sought;
 use libc::STDIN_FILENO;
 use libc::STDOUT_FILENO;
 
@@ -105,7 +106,7 @@ fn run_body(
         log,
         memory,
         out,
-        l,
+        Sought::Minimal(l),
     );
     put_run(r, out);
 }

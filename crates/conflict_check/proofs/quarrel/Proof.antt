@@ -45,14 +45,14 @@ use Rattle.conflict_check.specs.Quarrel.{checkedAnswer}
 use Rattle.errors.specs.declared.ErrorRow.{ErrorRow}
 use Rattle.answers.specs.declared.Answer.{Answer}
 use Rattle.conflict_check.specs.declared.Quarreled.{Quarreled}
-use Rattle.conflict_set.specs.declared.Lines.{Lines}
+use Rattle.conflict_set.specs.declared.Sought.{Sought}
 use Rattle.errors.proofs.ErrorRow as E
 use Rattle.answers.proofs.Answer as N
 use Rattle.answers.proofs.Answer.Laws as N′
 use Rattle.conflict_check.proofs.Quarreled as B
 use Rattle.conflict_check.proofs.Quarreled.Laws as B′
-use Rattle.conflict_set.proofs.Lines as L
-use Rattle.conflict_set.proofs.Lines.Laws as L′
+use Rattle.conflict_set.proofs.Sought as L
+use Rattle.conflict_set.proofs.Sought.Laws as L′
 use Rattle.lending.specs.Slices.{LentAgain, lends-again, comes-back}
 use Rattle.lending.specs.Sorts.{sorts, sorts3, alone}
 use Rattle.lending.specs.Frees.{full, frees-all}
@@ -98,14 +98,14 @@ module _ {M : Type 1} (𝓤 : URA M) (H : Heap 𝓤) (A : Atoms 𝓤) (mem : Mem
 
 module _ {M : Type 1} (𝓤 : URA M) (H : Heap 𝓤) (A : Atoms 𝓤) (W : Given 𝓤 H A) (mem : Memory → SProp 𝓤) (run : Routine → Fun 𝓤) (κ0 κ1 κ2 κ3 κ4 κ5 κ6 κ7 κ8 κ9 : Lft) (q0 q1 q2 q3 q4 q5 q6 q7 q8 q9 : Share)
     (src rows cells nodes vars types log memory out : RefT (List ℕ)) (errors : RefT (List ErrorRow))
-    (room-s : Room u8 (length (src .now))) (room-rows : Room u16 (length (rows .now))) (room-cells : Room u16 (length (cells .now))) (room-nodes : Room u16 (length (nodes .now))) (room-vars : Room u16 (length (vars .now))) (room-types : Room u16 (length (types .now))) (room-errors : Room E.the-row (length (errors .now))) (room-log : Room u16 (length (log .now))) (room-memory : Room u16 (length (memory .now))) (room-out : Room u8 (length (out .now))) (lines : Lines) (vl : Val) (is-lines : Is L.the-row lines (vl ∷ [])) where
+    (room-s : Room u8 (length (src .now))) (room-rows : Room u16 (length (rows .now))) (room-cells : Room u16 (length (cells .now))) (room-nodes : Room u16 (length (nodes .now))) (room-vars : Room u16 (length (vars .now))) (room-types : Room u16 (length (types .now))) (room-errors : Room E.the-row (length (errors .now))) (room-log : Room u16 (length (log .now))) (room-memory : Room u16 (length (memory .now))) (room-out : Room u8 (length (out .now))) (sought : Sought) (vl : Val) (is-sought : Is L.the-row sought (vl ∷ [])) where
   -- the arguments' type
   abbrev Arg : Type 0
-  Arg = RefT (List ℕ) × (RefT (List ℕ) × (RefT (List ℕ) × (RefT (List ℕ) × (RefT (List ℕ) × (RefT (List ℕ) × (RefT (List ErrorRow) × (RefT (List ℕ) × (RefT (List ℕ) × (RefT (List ℕ) × (Lines × Unit {0}))))))))))
+  Arg = RefT (List ℕ) × (RefT (List ℕ) × (RefT (List ℕ) × (RefT (List ℕ) × (RefT (List ℕ) × (RefT (List ℕ) × (RefT (List ErrorRow) × (RefT (List ℕ) × (RefT (List ℕ) × (RefT (List ℕ) × (Sought × Unit {0}))))))))))
 
   -- the arguments
   abbrev a : Arg
-  a = (src, (rows, (cells, (nodes, (vars, (types, (errors, (log, (memory, (out, (lines, tt)))))))))))
+  a = (src, (rows, (cells, (nodes, (vars, (types, (errors, (log, (memory, (out, (sought, tt)))))))))))
 
   -- their machine values
   abbrev vals : List Val × (List Val × (List Val × (List Val × (List Val × (List Val × (List Val × (List Val × (List Val × (List Val × (List Val × Unit {0}))))))))))
@@ -135,25 +135,25 @@ module _ {M : Type 1} (𝓤 : URA M) (H : Heap 𝓤) (A : Atoms 𝓤) (W : Given
   apart : ent 𝓤 (onEntry 𝓤 H A quarrel′.signature (κ0, (κ1, (κ2, (κ3, (κ4, (κ5, (κ6, (κ7, (κ8, (κ9, tt)))))))))) (q0, (q1, (q2, (q3, (q4, (q5, (q6, (q7, (q8, (q9, tt)))))))))) a vals) (mean 𝓤 H A (raw (⋆ 𝓤 H A mine) ⊛ ‵ (flft κ6 q6) ⊛ ‵ (MutSlice (named 6) κ6 E.the-row .own errors (at errors ∷ [])) ⊛ ‵ (flft κ8 q8) ⊛ ‵ (MutSlice (named 8) κ8 u16 .own memory (at memory ∷ []))))
   apart =
       sorts 𝓤 H A (‵ (flft κ0 q0) ∷ ‵ (flft κ1 q1) ∷ ‵ (flft κ2 q2) ∷ ‵ (flft κ3 q3) ∷ ‵ (flft κ4 q4) ∷ ‵ (flft κ5 q5) ∷ ‵ (flft κ6 q6) ∷ ‵ (flft κ7 q7) ∷ ‵ (flft κ8 q8) ∷ ‵ (flft κ9 q9) ∷ ‵ ftrue ∷ [])
-      (‵ (ShrSlice (named 0) κ0 u8 .own src (at src ∷ [])) ∷ ‵ (MutSlice (named 1) κ1 u16 .own rows (at rows ∷ [])) ∷ ‵ (MutSlice (named 2) κ2 u16 .own cells (at cells ∷ [])) ∷ ‵ (MutSlice (named 3) κ3 u16 .own nodes (at nodes ∷ [])) ∷ ‵ (MutSlice (named 4) κ4 u16 .own vars (at vars ∷ [])) ∷ ‵ (MutSlice (named 5) κ5 u16 .own types (at types ∷ [])) ∷ ‵ (MutSlice (named 6) κ6 E.the-row .own errors (at errors ∷ [])) ∷ ‵ (MutSlice (named 7) κ7 u16 .own log (at log ∷ [])) ∷ ‵ (MutSlice (named 8) κ8 u16 .own memory (at memory ∷ [])) ∷ ‵ (MutSlice (named 9) κ9 u8 .own out (at out ∷ [])) ∷ ‵ (L.the-row .own lines (vl ∷ [])) ∷ ‵ ftrue ∷ [])
+      (‵ (ShrSlice (named 0) κ0 u8 .own src (at src ∷ [])) ∷ ‵ (MutSlice (named 1) κ1 u16 .own rows (at rows ∷ [])) ∷ ‵ (MutSlice (named 2) κ2 u16 .own cells (at cells ∷ [])) ∷ ‵ (MutSlice (named 3) κ3 u16 .own nodes (at nodes ∷ [])) ∷ ‵ (MutSlice (named 4) κ4 u16 .own vars (at vars ∷ [])) ∷ ‵ (MutSlice (named 5) κ5 u16 .own types (at types ∷ [])) ∷ ‵ (MutSlice (named 6) κ6 E.the-row .own errors (at errors ∷ [])) ∷ ‵ (MutSlice (named 7) κ7 u16 .own log (at log ∷ [])) ∷ ‵ (MutSlice (named 8) κ8 u16 .own memory (at memory ∷ [])) ∷ ‵ (MutSlice (named 9) κ9 u8 .own out (at out ∷ [])) ∷ ‵ (L.the-row .own sought (vl ∷ [])) ∷ ‵ ftrue ∷ [])
       mine (‵ (flft κ6 q6) ∷ ‵ (MutSlice (named 6) κ6 E.the-row .own errors (at errors ∷ [])) ∷ ‵ (flft κ8 q8) ∷ ‵ (MutSlice (named 8) κ8 u16 .own memory (at memory ∷ [])) ∷ []) (0 ∷ 0 ∷ 0 ∷ 0 ∷ 0 ∷ 0 ∷ 1 ∷ 2 ∷ 3 ∷ 3 ∷ 3 ∷ 3 ∷ 3 ∷ 3 ∷ 4 ∷ 5 ∷ 0 ∷ 2 ∷ 0 ∷ 1 ∷ []) refl
 
   -- what `quarrel_tables`'s triple binds outside: the lifetimes of what is given up, and the memory's new one
   abbrev to-tables : ℕ → GName → TablesC 𝓤 H A mem run .Ghost
-  to-tables ν δ = (((κ0, (κ1, (κ2, (κ3, (κ4, (κ5, (κ7, (ν ∷ [], (κ9, tt))))))))), (q0, (q1, (q2, (q3, (q4, (q5, (q7, (fullShare, (q9, tt))))))))), tt, (src, (rows, (cells, (nodes, (vars, (types, (length (errors .now), (log, (lent δ, (out, (lines, tt))))))))))), (at src ∷ [], (at rows ∷ [], (at cells ∷ [], (at nodes ∷ [], (at vars ∷ [], (at types ∷ [], (vint w64 (length (errors .now)) ∷ [], (at log ∷ [], (at memory ∷ [], (at out ∷ [], (vl ∷ [], tt)))))))))))), tt)
+  to-tables ν δ = (((κ0, (κ1, (κ2, (κ3, (κ4, (κ5, (κ7, (ν ∷ [], (κ9, tt))))))))), (q0, (q1, (q2, (q3, (q4, (q5, (q7, (fullShare, (q9, tt))))))))), tt, (src, (rows, (cells, (nodes, (vars, (types, (length (errors .now), (log, (lent δ, (out, (sought, tt))))))))))), (at src ∷ [], (at rows ∷ [], (at cells ∷ [], (at nodes ∷ [], (at vars ∷ [], (at types ∷ [], (vint w64 (length (errors .now)) ∷ [], (at log ∷ [], (at memory ∷ [], (at out ∷ [], (vl ∷ [], tt)))))))))))), tt)
 
   -- what `quarrel_tables` asks
   goes-tables : (ν : ℕ) (δ : GName) → ent 𝓤 (⋆ 𝓤 H A (raw (⋆ 𝓤 H A mine) ∷ ‵ (flft (ν ∷ []) fullShare) ∷ ‵ (MutSlice (named 0) (ν ∷ []) u16 .own (lent δ) (at memory ∷ [])) ∷ [])) (TablesC 𝓤 H A mem run .pre (to-tables ν δ))
   goes-tables ν δ =
       qed W (raw (⋆ 𝓤 H A mine) ∷ ‵ (flft (ν ∷ []) fullShare) ∷ ‵ (MutSlice (named 0) (ν ∷ []) u16 .own (lent δ) (at memory ∷ [])) ∷ []) ∵
-      nothing ! $ nothing ! $ owned ! usize (Is usize) (uint-makes 𝓤 H A W w64) (length (errors .now)) _ (refl, room-errors .0) $ owned ! L.the-row (Is L.the-row) (EL.makes L.the-type L′.the-plain 𝓤 H A) lines _ is-lines $ move ! (4 ∷ 5 ∷ 6 ∷ []) $ by ! (via 𝓤 _ (sorts 𝓤 H A mine
-      (‵ (flft (ν ∷ []) fullShare) ∷ ‵ (MutSlice (named 0) (ν ∷ []) u16 .own (lent δ) (at memory ∷ [])) ∷ ‵ (L.the-row .own lines (vl ∷ [])) ∷ ‵ (usize .own (length (errors .now)) (vint w64 (length (errors .now)) ∷ [])) ∷ ‵ ftrue ∷ ‵ ftrue ∷ [])
+      nothing ! $ nothing ! $ owned ! usize (Is usize) (uint-makes 𝓤 H A W w64) (length (errors .now)) _ (refl, room-errors .0) $ owned ! L.the-row (Is L.the-row) (EL.makes L.the-type L′.the-plain 𝓤 H A) sought _ is-sought $ move ! (4 ∷ 5 ∷ 6 ∷ []) $ by ! (via 𝓤 _ (sorts 𝓤 H A mine
+      (‵ (flft (ν ∷ []) fullShare) ∷ ‵ (MutSlice (named 0) (ν ∷ []) u16 .own (lent δ) (at memory ∷ [])) ∷ ‵ (L.the-row .own sought (vl ∷ [])) ∷ ‵ (usize .own (length (errors .now)) (vint w64 (length (errors .now)) ∷ [])) ∷ ‵ ftrue ∷ ‵ ftrue ∷ [])
       (‵ (flft κ0 q0) ∷ ‵ (flft κ1 q1) ∷ ‵ (flft κ2 q2) ∷ ‵ (flft κ3 q3) ∷ ‵ (flft κ4 q4) ∷ ‵ (flft κ5 q5) ∷ ‵ (flft κ7 q7) ∷ ‵ (flft (ν ∷ []) fullShare) ∷ ‵ (flft κ9 q9) ∷ ‵ ftrue ∷ [])
-      (‵ (ShrSlice (named 0) κ0 u8 .own src (at src ∷ [])) ∷ ‵ (MutSlice (named 1) κ1 u16 .own rows (at rows ∷ [])) ∷ ‵ (MutSlice (named 2) κ2 u16 .own cells (at cells ∷ [])) ∷ ‵ (MutSlice (named 3) κ3 u16 .own nodes (at nodes ∷ [])) ∷ ‵ (MutSlice (named 4) κ4 u16 .own vars (at vars ∷ [])) ∷ ‵ (MutSlice (named 5) κ5 u16 .own types (at types ∷ [])) ∷ ‵ (usize .own (length (errors .now)) (vint w64 (length (errors .now)) ∷ [])) ∷ ‵ (MutSlice (named 7) κ7 u16 .own log (at log ∷ [])) ∷ ‵ (MutSlice (named 0) (ν ∷ []) u16 .own (lent δ) (at memory ∷ [])) ∷ ‵ (MutSlice (named 9) κ9 u8 .own out (at out ∷ [])) ∷ ‵ (L.the-row .own lines (vl ∷ [])) ∷ ‵ ftrue ∷ []) (0 ∷ 0 ∷ 0 ∷ 0 ∷ 0 ∷ 0 ∷ 0 ∷ 9 ∷ 0 ∷ 11 ∷ 0 ∷ 0 ∷ 0 ∷ 0 ∷ 0 ∷ 0 ∷ 4 ∷ 0 ∷ 1 ∷ 0 ∷ 0 ∷ 0 ∷ []) refl) (alone 𝓤 H A _))
+      (‵ (ShrSlice (named 0) κ0 u8 .own src (at src ∷ [])) ∷ ‵ (MutSlice (named 1) κ1 u16 .own rows (at rows ∷ [])) ∷ ‵ (MutSlice (named 2) κ2 u16 .own cells (at cells ∷ [])) ∷ ‵ (MutSlice (named 3) κ3 u16 .own nodes (at nodes ∷ [])) ∷ ‵ (MutSlice (named 4) κ4 u16 .own vars (at vars ∷ [])) ∷ ‵ (MutSlice (named 5) κ5 u16 .own types (at types ∷ [])) ∷ ‵ (usize .own (length (errors .now)) (vint w64 (length (errors .now)) ∷ [])) ∷ ‵ (MutSlice (named 7) κ7 u16 .own log (at log ∷ [])) ∷ ‵ (MutSlice (named 0) (ν ∷ []) u16 .own (lent δ) (at memory ∷ [])) ∷ ‵ (MutSlice (named 9) κ9 u8 .own out (at out ∷ [])) ∷ ‵ (L.the-row .own sought (vl ∷ [])) ∷ ‵ ftrue ∷ []) (0 ∷ 0 ∷ 0 ∷ 0 ∷ 0 ∷ 0 ∷ 0 ∷ 9 ∷ 0 ∷ 11 ∷ 0 ∷ 0 ∷ 0 ∷ 0 ∷ 0 ∷ 0 ∷ 4 ∷ 0 ∷ 1 ∷ 0 ∷ 0 ∷ 0 ∷ []) refl) (alone 𝓤 H A _))
 
   -- what is known after it of the result r, its machine value w, and the last lists
   abbrev Facts : Val → Quarreled → Lasts → Type 0
-  Facts w r zs = Is B.the-row r (w ∷ []) × ((length (zs .1 .0) ≡ length (rows .now)) × ((length (zs .1 .1 .0) ≡ length (cells .now)) × ((length (zs .1 .1 .1 .0) ≡ length (nodes .now)) × ((length (zs .1 .1 .1 .1 .0) ≡ length (vars .now)) × ((length (zs .1 .1 .1 .1 .1 .0) ≡ length (types .now)) × ((length (zs .1 .1 .1 .1 .1 .1 .1 .0) ≡ length (log .now)) × ((length (zs .1 .1 .1 .1 .1 .1 .1 .1 .1 .0) ≡ length (out .now)) × ((length (zs .1 .1 .1 .1 .1 .1 .1 .1 .0) ≡ length (memory .now)) × TablesQuarreled (src .now) (length (errors .now)) lines (lentTables (rows .now) (cells .now) (nodes .now) (vars .now) (types .now) [] (log .now) (memory .now)) (out .now) r (lentTables (zs .1 .0) (zs .1 .1 .0) (zs .1 .1 .1 .0) (zs .1 .1 .1 .1 .0) (zs .1 .1 .1 .1 .1 .0) [] (zs .1 .1 .1 .1 .1 .1 .1 .0) (zs .1 .1 .1 .1 .1 .1 .1 .1 .0)) (zs .1 .1 .1 .1 .1 .1 .1 .1 .1 .0)))))))))
+  Facts w r zs = Is B.the-row r (w ∷ []) × ((length (zs .1 .0) ≡ length (rows .now)) × ((length (zs .1 .1 .0) ≡ length (cells .now)) × ((length (zs .1 .1 .1 .0) ≡ length (nodes .now)) × ((length (zs .1 .1 .1 .1 .0) ≡ length (vars .now)) × ((length (zs .1 .1 .1 .1 .1 .0) ≡ length (types .now)) × ((length (zs .1 .1 .1 .1 .1 .1 .1 .0) ≡ length (log .now)) × ((length (zs .1 .1 .1 .1 .1 .1 .1 .1 .1 .0) ≡ length (out .now)) × ((length (zs .1 .1 .1 .1 .1 .1 .1 .1 .0) ≡ length (memory .now)) × TablesQuarreled (src .now) (length (errors .now)) sought (lentTables (rows .now) (cells .now) (nodes .now) (vars .now) (types .now) [] (log .now) (memory .now)) (out .now) r (lentTables (zs .1 .0) (zs .1 .1 .0) (zs .1 .1 .1 .0) (zs .1 .1 .1 .1 .0) (zs .1 .1 .1 .1 .1 .0) [] (zs .1 .1 .1 .1 .1 .1 .1 .0) (zs .1 .1 .1 .1 .1 .1 .1 .1 .0)) (zs .1 .1 .1 .1 .1 .1 .1 .1 .1 .0)))))))))
 
   -- what is had after it
   abbrev Said : ℕ → GName → Val → Quarreled → Lasts → Item 𝓤
@@ -162,10 +162,10 @@ module _ {M : Type 1} (𝓤 : URA M) (H : Heap 𝓤) (A : Atoms 𝓤) (W : Given
   -- what `quarrel_tables` gives
   tables-said : (ν : ℕ) (δ : GName) (w : Val) → ent 𝓤 (TablesC 𝓤 H A mem run .post (to-tables ν δ) w) (mean 𝓤 H A (later (some (λ (r : Quarreled). some (Said ν δ w r)))))
   tables-said ν δ w =
-      qed W (later (some (λ (r : Quarreled). ((‵ (flft κ0 q0) ⊛ ‵ (flft κ1 q1) ⊛ ‵ (flft κ2 q2) ⊛ ‵ (flft κ3 q3) ⊛ ‵ (flft κ4 q4) ⊛ ‵ (flft κ5 q5) ⊛ ‵ (flft κ7 q7) ⊛ ‵ (flft (ν ∷ []) fullShare) ⊛ ‵ (flft κ9 q9) ⊛ ‵ ftrue) ⊛ ‵ (B.the-row .own r (w ∷ []))) ⊛ raw (ensured 𝓤 H A tables.ended (tables.clauses 𝓤 H A mem run) (κ0, (κ1, (κ2, (κ3, (κ4, (κ5, (κ7, (ν ∷ [], (κ9, tt))))))))) (src, (rows, (cells, (nodes, (vars, (types, (length (errors .now), (log, (lent δ, (out, (lines, tt))))))))))) tt r))) ∷ []) ∵
+      qed W (later (some (λ (r : Quarreled). ((‵ (flft κ0 q0) ⊛ ‵ (flft κ1 q1) ⊛ ‵ (flft κ2 q2) ⊛ ‵ (flft κ3 q3) ⊛ ‵ (flft κ4 q4) ⊛ ‵ (flft κ5 q5) ⊛ ‵ (flft κ7 q7) ⊛ ‵ (flft (ν ∷ []) fullShare) ⊛ ‵ (flft κ9 q9) ⊛ ‵ ftrue) ⊛ ‵ (B.the-row .own r (w ∷ []))) ⊛ raw (ensured 𝓤 H A tables.ended (tables.clauses 𝓤 H A mem run) (κ0, (κ1, (κ2, (κ3, (κ4, (κ5, (κ7, (ν ∷ [], (κ9, tt))))))))) (src, (rows, (cells, (nodes, (vars, (types, (length (errors .now), (log, (lent δ, (out, (sought, tt))))))))))) tt r))) ∷ []) ∵
       updating ! $ await ! tt $ pick ! (λ r. split ! $ move ! (1 ∷ []) $
-      use1 W (some (λ (zs : Lasts). ‵ (lasts tables.ended (κ0, (κ1, (κ2, (κ3, (κ4, (κ5, (κ7, (ν ∷ [], (κ9, tt))))))))) (src, (rows, (cells, (nodes, (vars, (types, (length (errors .now), (log, (lent δ, (out, (lines, tt))))))))))) zs) ⊛ raw (fact 𝓤 (TablesQuarreled (src .now) (length (errors .now)) lines (lentTables (rows .now) (cells .now) (nodes .now) (vars .now) (types .now) [] (log .now) (memory .now)) (out .now) r (lentTables (zs .1 .0) (zs .1 .1 .0) (zs .1 .1 .1 .0) (zs .1 .1 .1 .1 .0) (zs .1 .1 .1 .1 .1 .0) [] (zs .1 .1 .1 .1 .1 .1 .1 .0) (zs .1 .1 .1 .1 .1 .1 .1 .1 .0)) (zs .1 .1 .1 .1 .1 .1 .1 .1 .1 .0))))) (id⊢ 𝓤 _) $ pick ! (λ zs.
-      split ! $ move ! (1 ∷ []) $ heard ! (TablesQuarreled (src .now) (length (errors .now)) lines (lentTables (rows .now) (cells .now) (nodes .now) (vars .now) (types .now) [] (log .now) (memory .now)) (out .now) r (lentTables (zs .1 .0) (zs .1 .1 .0) (zs .1 .1 .1 .0) (zs .1 .1 .1 .1 .0) (zs .1 .1 .1 .1 .1 .0) [] (zs .1 .1 .1 .1 .1 .1 .1 .0) (zs .1 .1 .1 .1 .1 .1 .1 .1 .0)) (zs .1 .1 .1 .1 .1 .1 .1 .1 .1 .0)) (λ e. fsplit ! $ move ! (1 ∷ []) $ fsplit ! $ move ! (1 ∷ []) $ fsplit ! $ move ! (1 ∷ []) $ fsplit ! $ move ! (1 ∷ []) $ fsplit ! $ move ! (1 ∷ []) $ fsplit ! $ move ! (1 ∷ []) $ fsplit ! $ move ! (1 ∷ []) $ fsplit ! $ move ! (1 ∷ []) $ fsplit ! $ move ! (1 ∷ []) $ fsplit ! $ move ! (1 ∷ []) $ fsplit ! $ move ! (10 ∷ []) $ fsplit ! $ move ! (1 ∷ []) $ feqL ! (λ len-rows. move ! (10 ∷ []) $ fsplit ! $ move ! (1 ∷ []) $ feqL ! (λ len-cells. move ! (10 ∷ []) $ fsplit ! $ move ! (1 ∷ []) $ feqL ! (λ len-nodes. move ! (10 ∷ []) $ fsplit ! $ move ! (1 ∷ []) $ feqL ! (λ len-vars. move ! (10 ∷ []) $ fsplit ! $ move ! (1 ∷ []) $ feqL ! (λ len-types. move ! (9 ∷ []) $ fsplit ! $ move ! (1 ∷ []) $ feqL ! (λ len-log. move ! (8 ∷ []) $ fsplit ! $ move ! (1 ∷ []) $ feqL ! (λ len-out. move ! (9 ∷ []) $ fsplit ! $ move ! (1 ∷ []) $ feqL ! (λ len-memory.
+      use1 W (some (λ (zs : Lasts). ‵ (lasts tables.ended (κ0, (κ1, (κ2, (κ3, (κ4, (κ5, (κ7, (ν ∷ [], (κ9, tt))))))))) (src, (rows, (cells, (nodes, (vars, (types, (length (errors .now), (log, (lent δ, (out, (sought, tt))))))))))) zs) ⊛ raw (fact 𝓤 (TablesQuarreled (src .now) (length (errors .now)) sought (lentTables (rows .now) (cells .now) (nodes .now) (vars .now) (types .now) [] (log .now) (memory .now)) (out .now) r (lentTables (zs .1 .0) (zs .1 .1 .0) (zs .1 .1 .1 .0) (zs .1 .1 .1 .1 .0) (zs .1 .1 .1 .1 .1 .0) [] (zs .1 .1 .1 .1 .1 .1 .1 .0) (zs .1 .1 .1 .1 .1 .1 .1 .1 .0)) (zs .1 .1 .1 .1 .1 .1 .1 .1 .1 .0))))) (id⊢ 𝓤 _) $ pick ! (λ zs.
+      split ! $ move ! (1 ∷ []) $ heard ! (TablesQuarreled (src .now) (length (errors .now)) sought (lentTables (rows .now) (cells .now) (nodes .now) (vars .now) (types .now) [] (log .now) (memory .now)) (out .now) r (lentTables (zs .1 .0) (zs .1 .1 .0) (zs .1 .1 .1 .0) (zs .1 .1 .1 .1 .0) (zs .1 .1 .1 .1 .1 .0) [] (zs .1 .1 .1 .1 .1 .1 .1 .0) (zs .1 .1 .1 .1 .1 .1 .1 .1 .0)) (zs .1 .1 .1 .1 .1 .1 .1 .1 .1 .0)) (λ e. fsplit ! $ move ! (1 ∷ []) $ fsplit ! $ move ! (1 ∷ []) $ fsplit ! $ move ! (1 ∷ []) $ fsplit ! $ move ! (1 ∷ []) $ fsplit ! $ move ! (1 ∷ []) $ fsplit ! $ move ! (1 ∷ []) $ fsplit ! $ move ! (1 ∷ []) $ fsplit ! $ move ! (1 ∷ []) $ fsplit ! $ move ! (1 ∷ []) $ fsplit ! $ move ! (1 ∷ []) $ fsplit ! $ move ! (10 ∷ []) $ fsplit ! $ move ! (1 ∷ []) $ feqL ! (λ len-rows. move ! (10 ∷ []) $ fsplit ! $ move ! (1 ∷ []) $ feqL ! (λ len-cells. move ! (10 ∷ []) $ fsplit ! $ move ! (1 ∷ []) $ feqL ! (λ len-nodes. move ! (10 ∷ []) $ fsplit ! $ move ! (1 ∷ []) $ feqL ! (λ len-vars. move ! (10 ∷ []) $ fsplit ! $ move ! (1 ∷ []) $ feqL ! (λ len-types. move ! (9 ∷ []) $ fsplit ! $ move ! (1 ∷ []) $ feqL ! (λ len-log. move ! (8 ∷ []) $ fsplit ! $ move ! (1 ∷ []) $ feqL ! (λ len-out. move ! (9 ∷ []) $ fsplit ! $ move ! (1 ∷ []) $ feqL ! (λ len-memory.
       move ! (12 ∷ []) $ split ! $ move ! (1 ∷ []) $ facts ! B.the-row (Is B.the-row) (shows 𝓤 H A B.the-row) r (w ∷ []) (λ is. split ! $ move ! (1 ∷ []) $ split ! $ move ! (1 ∷ []) $ split ! $ move ! (1 ∷ []) $ split ! $ move ! (1 ∷ []) $ split ! $ move ! (1 ∷ []) $ split ! $ move ! (1 ∷ []) $ split ! $ move ! (1 ∷ []) $ split ! $ move ! (1 ∷ []) $ split ! $
       at-once ! $ show ! (λ (r′ : Quarreled). mean 𝓤 H A (some (Said ν δ w r′))) r $ show ! (λ (zs′ : Lasts). mean 𝓤 H A (Said ν δ w r zs′)) zs $ checks ! (is, (len-rows, (len-cells, (len-nodes, (len-vars, (len-types, (len-log, (len-out, (len-memory, e))))))))) $
       keep ! (9 ∷ 8 ∷ 7 ∷ 6 ∷ 5 ∷ 4 ∷ 3 ∷ 0 ∷ 17 ∷ 16 ∷ 15 ∷ 14 ∷ 13 ∷ 12 ∷ 11 ∷ 2 ∷ 10 ∷ []) $ by ! (⊢++ 𝓤 H A (left zs) (‵ (flft (ν ∷ []) fullShare) ∷ ‵ (finally u16 δ (zs .1 .1 .1 .1 .1 .1 .1 .1 .0)) ∷ []))))))))))))))
@@ -183,11 +183,11 @@ module _ {M : Type 1} (𝓤 : URA M) (H : Heap 𝓤) (A : Atoms 𝓤) (W : Given
       → ent 𝓤 (⋆ 𝓤 H A (raw (⋆ 𝓤 H A (left zs)) ∷ ‵ (flft κ6 q6) ∷ ‵ (flft κ8 q8) ∷ ‵ (finally E.the-row (errors .name) us) ∷ ‵ (finally u16 (memory .name) vs) ∷ [])) (Post w)
   exits w r zs us vs f len-errors len-memory d ed h =
       qed W (raw (⋆ 𝓤 H A (left zs)) ∷ ‵ (flft κ6 q6) ∷ ‵ (flft κ8 q8) ∷ ‵ (finally E.the-row (errors .name) us) ∷ ‵ (finally u16 (memory .name) vs) ∷ []) ∵
-      suffices ! _ (ends-at 𝓤 H A quarrel′.ended stayed (quarrel′.clauses 𝓤 H A mem run) W (((κ0, (κ1, (κ2, (κ3, (κ4, (κ5, (κ6, (κ7, (κ8, (κ9, tt)))))))))), (q0, (q1, (q2, (q3, (q4, (q5, (q6, (q7, (q8, (q9, tt)))))))))), tt, a, vals), tt) w r (tt, (zs .1 .0, (zs .1 .1 .0, (zs .1 .1 .1 .0, (zs .1 .1 .1 .1 .0, (zs .1 .1 .1 .1 .1 .0, (us, (zs .1 .1 .1 .1 .1 .1 .1 .0, (vs, (zs .1 .1 .1 .1 .1 .1 .1 .1 .1 .0, (tt, tt))))))))))) (tt, (f .1 .0, (f .1 .1 .0, (f .1 .1 .1 .0, (f .1 .1 .1 .1 .0, (f .1 .1 .1 .1 .1 .0, (len-errors, (f .1 .1 .1 .1 .1 .1 .0, (len-memory, (f .1 .1 .1 .1 .1 .1 .1 .0, (tt, tt)))))))))))) $ says ! (quarrel-law (src .now) (errors .now) lines (lentTables (rows .now) (cells .now) (nodes .now) (vars .now) (types .now) [] (log .now) (memory .now)) (out .now) r (lentTables (zs .1 .0) (zs .1 .1 .0) (zs .1 .1 .1 .0) (zs .1 .1 .1 .1 .0) (zs .1 .1 .1 .1 .1 .0) [] (zs .1 .1 .1 .1 .1 .1 .1 .0) (zs .1 .1 .1 .1 .1 .1 .1 .1 .0)) (zs .1 .1 .1 .1 .1 .1 .1 .1 .1 .0) d us vs (f .1 .1 .1 .1 .1 .1 .1 .1 .1) ed h) $
-      nothing ! $ nothing ! $ nothing ! $ owned ! B.the-row (Is B.the-row) (EL.makes B.the-type B′.the-plain 𝓤 H A) r _ (f .0) $ owned ! L.the-row (Is L.the-row) (EL.makes L.the-type L′.the-plain 𝓤 H A) lines _ is-lines $ move ! (5 ∷ 6 ∷ 7 ∷ 8 ∷ 9 ∷ []) $ by ! (sorts3 𝓤 H A (left zs)
-      (‵ (flft κ6 q6) ∷ ‵ (flft κ8 q8) ∷ ‵ (finally E.the-row (errors .name) us) ∷ ‵ (finally u16 (memory .name) vs) ∷ ‵ (L.the-row .own lines (vl ∷ [])) ∷ ‵ (B.the-row .own r (w ∷ [])) ∷ ‵ ftrue ∷ ‵ ftrue ∷ ‵ ftrue ∷ [])
+      suffices ! _ (ends-at 𝓤 H A quarrel′.ended stayed (quarrel′.clauses 𝓤 H A mem run) W (((κ0, (κ1, (κ2, (κ3, (κ4, (κ5, (κ6, (κ7, (κ8, (κ9, tt)))))))))), (q0, (q1, (q2, (q3, (q4, (q5, (q6, (q7, (q8, (q9, tt)))))))))), tt, a, vals), tt) w r (tt, (zs .1 .0, (zs .1 .1 .0, (zs .1 .1 .1 .0, (zs .1 .1 .1 .1 .0, (zs .1 .1 .1 .1 .1 .0, (us, (zs .1 .1 .1 .1 .1 .1 .1 .0, (vs, (zs .1 .1 .1 .1 .1 .1 .1 .1 .1 .0, (tt, tt))))))))))) (tt, (f .1 .0, (f .1 .1 .0, (f .1 .1 .1 .0, (f .1 .1 .1 .1 .0, (f .1 .1 .1 .1 .1 .0, (len-errors, (f .1 .1 .1 .1 .1 .1 .0, (len-memory, (f .1 .1 .1 .1 .1 .1 .1 .0, (tt, tt)))))))))))) $ says ! (quarrel-law (src .now) (errors .now) sought (lentTables (rows .now) (cells .now) (nodes .now) (vars .now) (types .now) [] (log .now) (memory .now)) (out .now) r (lentTables (zs .1 .0) (zs .1 .1 .0) (zs .1 .1 .1 .0) (zs .1 .1 .1 .1 .0) (zs .1 .1 .1 .1 .1 .0) [] (zs .1 .1 .1 .1 .1 .1 .1 .0) (zs .1 .1 .1 .1 .1 .1 .1 .1 .0)) (zs .1 .1 .1 .1 .1 .1 .1 .1 .1 .0) d us vs (f .1 .1 .1 .1 .1 .1 .1 .1 .1) ed h) $
+      nothing ! $ nothing ! $ nothing ! $ owned ! B.the-row (Is B.the-row) (EL.makes B.the-type B′.the-plain 𝓤 H A) r _ (f .0) $ owned ! L.the-row (Is L.the-row) (EL.makes L.the-type L′.the-plain 𝓤 H A) sought _ is-sought $ move ! (5 ∷ 6 ∷ 7 ∷ 8 ∷ 9 ∷ []) $ by ! (sorts3 𝓤 H A (left zs)
+      (‵ (flft κ6 q6) ∷ ‵ (flft κ8 q8) ∷ ‵ (finally E.the-row (errors .name) us) ∷ ‵ (finally u16 (memory .name) vs) ∷ ‵ (L.the-row .own sought (vl ∷ [])) ∷ ‵ (B.the-row .own r (w ∷ [])) ∷ ‵ ftrue ∷ ‵ ftrue ∷ ‵ ftrue ∷ [])
       (‵ (flft κ0 q0) ∷ ‵ (flft κ1 q1) ∷ ‵ (flft κ2 q2) ∷ ‵ (flft κ3 q3) ∷ ‵ (flft κ4 q4) ∷ ‵ (flft κ5 q5) ∷ ‵ (flft κ6 q6) ∷ ‵ (flft κ7 q7) ∷ ‵ (flft κ8 q8) ∷ ‵ (flft κ9 q9) ∷ ‵ ftrue ∷ [])
-      (‵ ftrue ∷ ‵ (finally u16 (rows .name) (zs .1 .0)) ∷ ‵ (finally u16 (cells .name) (zs .1 .1 .0)) ∷ ‵ (finally u16 (nodes .name) (zs .1 .1 .1 .0)) ∷ ‵ (finally u16 (vars .name) (zs .1 .1 .1 .1 .0)) ∷ ‵ (finally u16 (types .name) (zs .1 .1 .1 .1 .1 .0)) ∷ ‵ (finally E.the-row (errors .name) us) ∷ ‵ (finally u16 (log .name) (zs .1 .1 .1 .1 .1 .1 .1 .0)) ∷ ‵ (finally u16 (memory .name) vs) ∷ ‵ (finally u8 (out .name) (zs .1 .1 .1 .1 .1 .1 .1 .1 .1 .0)) ∷ ‵ (L.the-row .own lines (vl ∷ [])) ∷ ‵ ftrue ∷ []) (‵ (B.the-row .own r (w ∷ [])) ∷ []) (0 ∷ 0 ∷ 0 ∷ 0 ∷ 0 ∷ 0 ∷ 9 ∷ 0 ∷ 8 ∷ 0 ∷ 11 ∷ 11 ∷ 0 ∷ 0 ∷ 0 ∷ 0 ∷ 0 ∷ 2 ∷ 0 ∷ 1 ∷ 0 ∷ 0 ∷ 1 ∷ 0 ∷ []) refl)
+      (‵ ftrue ∷ ‵ (finally u16 (rows .name) (zs .1 .0)) ∷ ‵ (finally u16 (cells .name) (zs .1 .1 .0)) ∷ ‵ (finally u16 (nodes .name) (zs .1 .1 .1 .0)) ∷ ‵ (finally u16 (vars .name) (zs .1 .1 .1 .1 .0)) ∷ ‵ (finally u16 (types .name) (zs .1 .1 .1 .1 .1 .0)) ∷ ‵ (finally E.the-row (errors .name) us) ∷ ‵ (finally u16 (log .name) (zs .1 .1 .1 .1 .1 .1 .1 .0)) ∷ ‵ (finally u16 (memory .name) vs) ∷ ‵ (finally u8 (out .name) (zs .1 .1 .1 .1 .1 .1 .1 .1 .1 .0)) ∷ ‵ (L.the-row .own sought (vl ∷ [])) ∷ ‵ ftrue ∷ []) (‵ (B.the-row .own r (w ∷ [])) ∷ []) (0 ∷ 0 ∷ 0 ∷ 0 ∷ 0 ∷ 0 ∷ 9 ∷ 0 ∷ 8 ∷ 0 ∷ 11 ∷ 11 ∷ 0 ∷ 0 ∷ 0 ∷ 0 ∷ 0 ∷ 2 ∷ 0 ∷ 1 ∷ 0 ∷ 0 ∷ 1 ∷ 0 ∷ []) refl)
 
   module _ (C : Calls 𝓤 H) (Λ : Loops 𝓤 H) (fm : FmC 𝓤 H (W .laws) C) (known-tables : Triple 𝓤 (C #conflict-check·quarrel-tables) (TablesC 𝓤 H A mem run)) (known-answer : Triple 𝓤 (C #conflict-check·checked-answer) (AnswerC 𝓤 H A mem run)) (known-hand : Triple 𝓤 (C #answers·hand-errors) (Hand 𝓤 H A mem run)) where
     -- the walk
@@ -196,7 +196,7 @@ module _ {M : Type 1} (𝓤 : URA M) (H : Heap 𝓤) (A : Atoms 𝓤) (W : Given
         qed W (raw (onEntry 𝓤 H A quarrel′.signature (κ0, (κ1, (κ2, (κ3, (κ4, (κ5, (κ6, (κ7, (κ8, (κ9, tt)))))))))) (q0, (q1, (q2, (q3, (q4, (q5, (q6, (q7, (q8, (q9, tt)))))))))) a vals) ∷ []) ∵
         enter ! C Λ code.function (at src ∷ at rows ∷ at cells ∷ at nodes ∷ at vars ∷ at types ∷ at errors ∷ at log ∷ at memory ∷ at out ∷ vl ∷ []) _ $
         alloc1 ! (λ l0. alloc1 ! (λ l1. alloc1 ! (λ l2. alloc1 ! (λ l3. alloc1 ! (λ l4. alloc1 ! (λ l5. alloc1 ! (λ l6. alloc1 ! (λ l7. alloc1 ! (λ l8. alloc1 ! (λ l9. alloc1 ! (λ l10. alloc1 ! (λ l11. alloc1 ! (λ l12. alloc1 ! (λ l13. alloc1 ! (λ l14. alloc1 ! (λ l15. alloc1 ! (λ l16. alloc1 ! (λ l17. alloc1 ! (λ l18. alloc1 ! (λ l19. alloc1 ! (λ l20. alloc1 ! (λ l21. alloc1 ! (λ l22. alloc1 ! (λ l23. alloc1 ! (λ l24. alloc1 ! (λ l25. alloc1 ! (λ l26. alloc1 ! (λ l27. alloc1 ! (λ l28. alloc1 ! (λ l29. alloc1 ! (λ l30. alloc1 ! (λ l31. alloc1 ! (λ l32. alloc1 ! (λ l33. alloc1 ! (λ l34. alloc1 ! (λ l35. alloc0 ! $ params1 ! $
-        pass1 ! (init ! 68 refl (tt, (tt, (record { fits = room-s .0 }, tt)))) $ pass1 ! (init ! 66 refl (tt, (tt, (record { fits = room-rows .0 }, tt)))) $ pass1 ! (init ! 64 refl (tt, (tt, (record { fits = room-cells .0 }, tt)))) $ pass1 ! (init ! 62 refl (tt, (tt, (record { fits = room-nodes .0 }, tt)))) $ pass1 ! (init ! 60 refl (tt, (tt, (record { fits = room-vars .0 }, tt)))) $ pass1 ! (init ! 58 refl (tt, (tt, (record { fits = room-types .0 }, tt)))) $ pass1 ! (init ! 56 refl (tt, (tt, (record { fits = room-errors .0 }, tt)))) $ pass1 ! (init ! 54 refl (tt, (tt, (record { fits = room-log .0 }, tt)))) $ pass1 ! (init ! 52 refl (tt, (tt, (record { fits = room-memory .0 }, tt)))) $ pass1 ! (init ! 50 refl (tt, (tt, (record { fits = room-out .0 }, tt)))) $ pass1 ! (init ! 48 refl (EL.lawful L.the-type L′.the-laws 𝓤 H A W tt .typed lines _ is-lines .0)) $ pass0 ! $
+        pass1 ! (init ! 68 refl (tt, (tt, (record { fits = room-s .0 }, tt)))) $ pass1 ! (init ! 66 refl (tt, (tt, (record { fits = room-rows .0 }, tt)))) $ pass1 ! (init ! 64 refl (tt, (tt, (record { fits = room-cells .0 }, tt)))) $ pass1 ! (init ! 62 refl (tt, (tt, (record { fits = room-nodes .0 }, tt)))) $ pass1 ! (init ! 60 refl (tt, (tt, (record { fits = room-vars .0 }, tt)))) $ pass1 ! (init ! 58 refl (tt, (tt, (record { fits = room-types .0 }, tt)))) $ pass1 ! (init ! 56 refl (tt, (tt, (record { fits = room-errors .0 }, tt)))) $ pass1 ! (init ! 54 refl (tt, (tt, (record { fits = room-log .0 }, tt)))) $ pass1 ! (init ! 52 refl (tt, (tt, (record { fits = room-memory .0 }, tt)))) $ pass1 ! (init ! 50 refl (tt, (tt, (record { fits = room-out .0 }, tt)))) $ pass1 ! (init ! 48 refl (EL.lawful L.the-type L′.the-laws 𝓤 H A W tt .typed sought _ is-sought .0)) $ pass0 ! $
         assigns ! (of-opd ! (load ! (from ! (fld ! refl (stop !))) (look-in ! 56 (sub ! 1 refl (whole !))))) (from ! (stop !)) (init ! 46 refl (tt, record { fits = room-errors .0 })) $
         assigns ! (addr ! (from ! (fld ! refl (hop ! (look-in ! 66 (sub ! 0 refl (whole !))) (stop !))))) (from ! (stop !)) (init ! 40 refl (tt, tt)) $
         assigns ! (agg ! (and-then ! (load ! (from ! (stop !)) (look ! 40 refl)) (and-then ! (load ! (from ! (fld ! refl (stop !))) (look-in ! 66 (sub ! 1 refl (whole !)))) (no-more !)))) (from ! (stop !)) (init ! 38 refl (tt, (tt, (record { fits = room-rows .0 }, tt)))) $
