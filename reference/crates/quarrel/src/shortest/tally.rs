@@ -5,16 +5,18 @@ use crate::{Found, depths};
 use std::collections::BTreeMap;
 
 /// Up to how many subsets a search is run, and up to how many it is gone through by the other means.
-const LIMIT: u64 = 20_000;
+const LIMIT: u64 = 5_000;
 
 /// What came of the searches.
 #[derive(Default)]
 pub struct Tally {
     bodies: u64,
     searches: u64,
-    /// How many bodies have a set of f) of this size, and in how many of them something smaller was found, by its size.
+    /// How many bodies have a set of f) of this size.
     sizes: BTreeMap<usize, u64>,
-    found: BTreeMap<String, u64>,
+    /// In how many of them a smaller one was found, by its size, and by how many equations fewer it has.
+    found: BTreeMap<usize, u64>,
+    fewer: BTreeMap<usize, u64>,
     /// Bodies whose search does not end within the limit, so that none is run with 2^64-1.
     not_ended: u64,
     /// Searches whose whole outcome was compared with that of the other means.
@@ -58,8 +60,8 @@ impl Tally {
         if let Some(last) = before {
             self.not_ended += u64::from(!last.ended());
             if last.set != found.conflict {
-                let sizes = format!("{} to {}", found.conflict.len(), last.set.len());
-                *self.found.entry(sizes).or_default() += 1;
+                *self.found.entry(last.set.len()).or_default() += 1;
+                *self.fewer.entry(found.conflict.len() - last.set.len()).or_default() += 1;
             }
         }
     }
@@ -69,7 +71,8 @@ impl Tally {
         let mut text = format!("searched {}, {} searches\n", self.bodies, self.searches);
         text += &format!("sizes of the sets of f: {}\n", joined(&self.sizes));
         let found: u64 = self.found.values().sum();
-        text += &format!("a smaller one found: {found}, from size to size: {}\n", joined(&self.found));
+        text += &format!("a smaller one found: {found}, by size: {}\n", joined(&self.found));
+        text += &format!("equations fewer: {}\n", joined(&self.fewer));
         text += &format!("left out with 2^64-1, as {LIMIT} tests do not end the search: {}\n", self.not_ended);
         for why in self.wrong.iter().take(5) {
             text += &format!("{why}\n");
