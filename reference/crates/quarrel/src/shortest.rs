@@ -103,8 +103,8 @@ pub fn ends(count: usize, sizes: usize, limit: u64) -> Vec<u64> {
     ends
 }
 
-/// Numbers to search a body with, rising: 0, 1, each size's end up to the limit with one less and one more, what it takes to find a subset
-/// and one less, and 2^64-1 if the search ends within the limit.
+/// Numbers to search a body with, rising: 0, 1, each size's end up to the limit with one less and one more; if the search ends within the
+/// limit, what it takes and one less, 2^32 and 2^64-1.
 pub fn numbers(found: &Found, limit: u64) -> Vec<u64> {
     let mut numbers = vec![0, 1];
     for end in ends(found.equations.len(), found.conflict.len(), limit) {
@@ -113,7 +113,7 @@ pub fn numbers(found: &Found, limit: u64) -> Vec<u64> {
     let searched = found.search(limit);
     if searched.ended() {
         numbers.retain(|number| *number <= searched.tests + 1);
-        numbers.extend([searched.tests.saturating_sub(1), searched.tests, u64::MAX]);
+        numbers.extend([searched.tests.saturating_sub(1), searched.tests, 1 << 32, u64::MAX]);
     }
     numbers.sort_unstable();
     numbers.dedup();

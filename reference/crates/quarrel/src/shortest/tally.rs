@@ -17,7 +17,7 @@ pub struct Tally {
     /// In how many of them a smaller one was found, by its size, and by how many equations fewer it has.
     found: BTreeMap<usize, u64>,
     fewer: BTreeMap<usize, u64>,
-    /// Bodies whose search does not end within the limit, so that none is run with 2^64-1.
+    /// Bodies whose search does not end within the limit, so that none is run with 2^32 and 2^64-1.
     not_ended: u64,
     /// Searches whose whole outcome was compared with that of the other means.
     compared: u64,
@@ -73,7 +73,7 @@ impl Tally {
         let found: u64 = self.found.values().sum();
         text += &format!("a smaller one found: {found}, by size: {}\n", joined(&self.found));
         text += &format!("equations fewer: {}\n", joined(&self.fewer));
-        text += &format!("left out with 2^64-1, as {LIMIT} tests do not end the search: {}\n", self.not_ended);
+        text += &format!("left out with 2^32 and 2^64-1, as {LIMIT} tests do not end the search: {}\n", self.not_ended);
         for why in self.wrong.iter().take(5) {
             text += &format!("{why}\n");
         }
