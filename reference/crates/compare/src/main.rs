@@ -4,6 +4,8 @@ mod judge;
 mod ours;
 mod quarrels;
 mod reader;
+#[cfg(feature = "shortest")]
+mod shortest;
 mod shrink;
 mod tables;
 mod tally;
@@ -25,6 +27,8 @@ usage: compare SEED COUNT     the first COUNT generated bodies of SEED
        compare --bytes FILE   the body in FILE
        compare quarrels SEED COUNT     generated bodies of SEED until COUNT have a failed equation, through the tool of request f
        compare quarrels --bytes FILE   the body in FILE, through that tool
+       compare shortest SEED COUNT     the same through the search of request n, with several numbers of subsets each
+       compare shortest --bytes FILE
 ";
 
 /// How many indices a thread takes at a time.
@@ -64,7 +68,9 @@ fn command(args: &[&str]) -> Result<bool, String> {
             print!("{}{}{}", smallest(&tally), tally.differences(None), tally.judged());
             Ok(tally.different() == 0)
         }
-        ["quarrels", what, of] => quarrels(what, of),
+        ["quarrels", what, of] => tool(what, of, quarrels::file, quarrels::generated),
+        #[cfg(feature = "shortest")]
+        ["shortest", what, of] => tool(what, of, shortest::file, shortest::generated),
         [seed, count] => {
             let (seed, count) = (number(seed)?, number(count)?);
             let tally = run(Some(seed), count, &|index| {
@@ -80,13 +86,13 @@ fn command(args: &[&str]) -> Result<bool, String> {
     }
 }
 
-/// `SEED COUNT` or `--bytes FILE`.
-fn quarrels(what: &str, of: &str) -> Result<bool, String> {
+/// `SEED COUNT` or `--bytes FILE`, through one of the tools.
+fn tool(what: &str, of: &str, file: fn(&[u8]) -> bool, generated: fn(u64, u64) -> bool) -> Result<bool, String> {
     if what == "--bytes" {
-        return Ok(quarrels::file(&std::fs::read(of).map_err(|e| format!("{of}: {e}\n"))?));
+        return Ok(file(&std::fs::read(of).map_err(|e| format!("{of}: {e}\n"))?));
     }
     let number = |s: &str| s.parse::<u64>().map_err(|_| format!("{s} is no number\n{USAGE}"));
-    Ok(quarrels::generated(number(what)?, number(of)?))
+    Ok(generated(number(what)?, number(of)?))
 }
 
 /// The smallest body that differs, made smaller still; empty where that gives nothing.

@@ -1,7 +1,9 @@
 //! The library's tool of request f) against `crates/quarrel`, body by body.
 mod lent;
 mod run;
+pub mod tables;
 
+pub use lent::Lent;
 pub use run::{file, generated};
 
 use nunthila::TOLD;

@@ -58,6 +58,68 @@ impl Builder {
         self.finish(result, tail, made)
     }
 
+    /// A chain with clashing ends behind equations that shorten it: dropping from the first equation up leaves a long way through it,
+    /// and fewer equations conflict. The clash comes last. Now and then all are in any order.
+    pub fn shortcut_body(mut self) -> Vec<u8> {
+        self.draft.defs = vec![vec![I32, I32]];
+        self.draft.insts = vec![vec![], vec![]];
+        let count = self.random.pick(&[2, 2, 3, 3, 4, 4, 5, 6, 7, 9]);
+        let most_depth = self.random.pick(&[0, 0, 0, 1, 2]);
+        let mut made = Vec::new();
+        let lets = self.open_lets(&mut made, count);
+        let mut vertices: Vec<Vertex> = Vec::new();
+        for local in lets {
+            vertices.push(Vertex { local, depth: self.random.below(most_depth + 1) });
+        }
+        let lambda = self.random.chance(15).then(|| self.identity(&mut made));
+        let (near, far) = self.random.pick(&CLASHES);
+        let mut equations = self.shortcuts(&vertices, near, lambda);
+        self.without_a_share(&mut equations);
+        let mut chain: Vec<usize> = vertices.windows(2).map(|pair| self.link(pair[0], pair[1], lambda, 0)).collect();
+        chain.push(self.end(vertices[0], near));
+        self.without_a_share(&mut chain);
+        self.random.shuffle(&mut chain);
+        equations.extend(chain);
+        let last = vertices[count - 1];
+        equations.push(match self.random.chance(20) {
+            true => self.link(vertices[0], last, None, 1),
+            false => self.end(last, far),
+        });
+        if self.random.chance(20) {
+            self.random.shuffle(&mut equations);
+        }
+        made.extend(equations);
+        self.finish(NIL, None, made)
+    }
+
+    /// Links past some of the variables of a chain, and its near end again at any of them.
+    fn shortcuts(&mut self, vertices: &[Vertex], near: End, lambda: Option<usize>) -> Vec<usize> {
+        let count = self.random.pick(&[0, 1, 1, 2, 2, 3]);
+        let mut equations = Vec::new();
+        for _ in 0..count {
+            let (one, other) = (self.random.pick(vertices), self.random.pick(vertices));
+            equations.push(match self.random.chance(50) {
+                true => self.end(one, near),
+                false => self.link(one, other, lambda, 0),
+            });
+        }
+        equations
+    }
+
+    /// A few equations more that share nothing with the chain, at any place.
+    fn without_a_share(&mut self, equations: &mut Vec<usize>) {
+        for _ in 0..self.random.pick(&[0, 0, 1, 2]) {
+            let (left, right) = match self.random.below(3) {
+                0 => (self.int(), self.emit(Node::Break)),
+                1 => (self.int(), self.int()),
+                _ => (self.boolean(), self.boolean()),
+            };
+            let equation = self.set(left, right);
+            let at = self.random.below(equations.len() + 1);
+            equations.insert(at, equation);
+        }
+    }
+
     /// `let f = |p| p`.
     fn identity(&mut self, made: &mut Vec<usize>) -> usize {
         let param = self.emit(Node::Param(None));

@@ -138,6 +138,18 @@ pub fn conflict_or_other(seed: u64, index: u64) -> (&'static str, Vec<u8>) {
     (family.name(), bytes)
 }
 
+/// Sets the bodies of [`shortcut_or_conflict`] apart in the same way.
+const SHORTCUTS: u64 = 0x7368_6f72_7463_7574;
+
+/// Body `index` of a seed for the search of request n), and the name of its family: an odd index has a chain of variables behind equations
+/// that shorten it, an even one the body of [`conflict_or_other`] of half that index.
+pub fn shortcut_or_conflict(seed: u64, index: u64) -> (&'static str, Vec<u8>) {
+    match index % 2 {
+        1 => ("shortcut", Builder::new(Random::new(seed ^ SHORTCUTS, index)).shortcut_body()),
+        _ => conflict_or_other(seed, index / 2),
+    }
+}
+
 /// Body `index` of a seed, of the family that is asked for.
 pub fn of_family(family: Family, seed: u64, index: u64) -> Vec<u8> {
     made(family, Random::new(seed, index))

@@ -1,6 +1,6 @@
 //! What holds of every body: it can be made again, and it keeps the limits.
 
-use generate::{FAMILIES, Family, body, conflict_or_other, describe, of_family};
+use generate::{FAMILIES, Family, body, conflict_or_other, describe, of_family, shortcut_or_conflict};
 
 const COUNT: u64 = 300;
 
@@ -103,6 +103,17 @@ fn every_second_body_has_a_chain() {
         keep_the_limits(&bytes);
         let (family, bytes) = body(1, index);
         assert_eq!(conflict_or_other(1, 2 * index), (family.name(), bytes));
+    }
+}
+
+/// The bodies for request n): the odd ones are chains with shortcuts, the even ones those for request f) of half the index.
+#[test]
+fn every_second_body_has_shortcuts() {
+    for index in 0..COUNT {
+        let (name, bytes) = shortcut_or_conflict(1, 2 * index + 1);
+        assert_eq!(name, "shortcut");
+        keep_the_limits(&bytes);
+        assert_eq!(shortcut_or_conflict(1, 2 * index), conflict_or_other(1, index));
     }
 }
 

@@ -1,5 +1,7 @@
 //! Request f) of document 02, "Which lines quarrel", to the letter: of the equations up to and including the first that failed or was
-//! refused 12, a minimal conflict.
+//! refused 12, a minimal conflict. Request n) is beside it: `shortest`.
+pub mod depths;
+pub mod shortest;
 pub mod solve;
 pub mod tally;
 
@@ -28,6 +30,15 @@ pub struct Given {
 }
 
 impl Given {
+    /// A text in a lent output of so many bytes or in one that is long enough, "9 last"; or the refusal.
+    pub fn of(text: Result<String, Refusal>, room: Option<usize>) -> Given {
+        match text {
+            Ok(text) if room.is_none_or(|room| text.len() <= room) => Given { answer: 0, place: None, text },
+            Ok(_) => Given { answer: 9, place: None, text: String::new() },
+            Err(Refusal { answer, place }) => Given { answer, place, text: String::new() },
+        }
+    }
+
     /// The answer line and the text.
     pub fn lines(&self) -> String {
         rules::print::answer(self.answer, self.place) + &self.text
@@ -43,8 +54,6 @@ pub struct Refusal {
 
 /// "Refusal 14 is given, after the checker's own refusals other than 12", PLACE `-`.
 const NOTHING_TO_TELL: Refusal = Refusal { answer: 14, place: None };
-/// 9, PLACE `-`.
-const NO_ROOM: Refusal = Refusal { answer: 9, place: None };
 
 /// The equations that the tool works on, and those left of them.
 #[derive(Debug, Clone)]
@@ -58,14 +67,7 @@ pub struct Found {
 
 /// What the tool gives for a body, in a lent output of so many bytes or in one that is long enough.
 pub fn give(bytes: &[u8], form: Form, room: Option<usize>) -> Given {
-    let text = find(bytes).and_then(|found| {
-        let text = found.text(form);
-        if room.is_some_and(|room| text.len() > room) { Err(NO_ROOM) } else { Ok(text) }
-    });
-    match text {
-        Ok(text) => Given { answer: 0, place: None, text },
-        Err(Refusal { answer, place }) => Given { answer, place, text: String::new() },
-    }
+    Given::of(find(bytes).map(|found| found.lines(&found.conflict, form)), room)
 }
 
 /// The minimal conflict of a body, or the refusal.
@@ -185,14 +187,14 @@ pub fn not_minimal(system: &System, conflict: &[usize]) -> Option<String> {
 }
 
 impl Found {
-    /// "its text is an `equation=` line for each one left".
-    fn text(&self, form: Form) -> String {
+    /// "its text is an `equation=` line for each one": for those of these numbers.
+    pub fn lines(&self, numbers: &[usize], form: Form) -> String {
         let line = |number: &usize| match (form, &self.equations[*number]) {
             (Form::Number, _) => format!("equation={number}\n"),
             (Form::Where, Equation { place, expected, got, .. }) => {
                 format!("equation={number},{place},{expected},{got}\n")
             }
         };
-        self.conflict.iter().map(line).collect()
+        numbers.iter().map(line).collect()
     }
 }

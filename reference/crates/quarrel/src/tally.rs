@@ -98,6 +98,6 @@ fn range_of(number: usize) -> usize {
 }
 
 /// `KEY: COUNT` for each.
-fn joined<K: std::fmt::Display>(counts: &BTreeMap<K, u64>) -> String {
+pub(crate) fn joined<K: std::fmt::Display>(counts: &BTreeMap<K, u64>) -> String {
     counts.iter().map(|(key, count)| format!("{key}: {count}")).collect::<Vec<_>>().join(", ")
 }

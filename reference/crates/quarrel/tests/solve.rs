@@ -1,26 +1,10 @@
 //! The solver: the meetings of kinds and leaves, classes inside themselves, and random systems against another way to decide them.
+mod common;
+
+use common::{KINDS, LEAVES, random_system, system};
 use generate::Random;
 use quarrel::solve::{Closed, Kind, Leaf, System, Term};
-use quarrel::{minimal_conflict, not_minimal};
-
-const LEAVES: [Leaf; 10] = [
-    Leaf::Nil,
-    Leaf::Bool,
-    Leaf::Uint(8),
-    Leaf::Uint(16),
-    Leaf::Int(8),
-    Leaf::Int(64),
-    Leaf::Float,
-    Leaf::Double,
-    Leaf::Inst(0),
-    Leaf::Inst(1),
-];
-const KINDS: [Kind; 3] = [Kind::Any, Kind::Integer, Kind::Float];
-
-/// A system over these terms, every equation with both sides.
-fn system(terms: &[Term], equations: &[(usize, usize)]) -> System {
-    System { terms: terms.to_vec(), equations: equations.iter().copied().map(Some).collect() }
-}
+use quarrel::{depths, minimal_conflict, not_minimal};
 
 /// Whether all equations of a system have a common solution.
 fn solvable(system: &System) -> bool {
@@ -121,93 +105,6 @@ fn what_is_not_minimal_is_told() {
     assert_eq!(minimal_conflict(&three), [1, 2]);
 }
 
-/// A small random system: variables of every kind, leaves, and arrays of them.
-fn random_system(random: &mut Random) -> System {
-    let mut terms: Vec<Term> = (0..random.range(1, 5)).map(|_| Term::Variable(random.pick(&KINDS))).collect();
-    if random.chance(70) {
-        terms.iter_mut().for_each(|term| *term = Term::Variable(Kind::Any));
-    }
-    for _ in 0..random.below(3) {
-        terms.push(Term::Leaf(random.pick(&LEAVES)));
-    }
-    for _ in 0..random.below(6) {
-        terms.push(Term::Array(random.below(terms.len())));
-    }
-    let count = random.range(1, 6);
-    let equations = (0..count).map(|_| (random.below(terms.len()), random.below(terms.len()))).collect::<Vec<_>>();
-    system(&terms, &equations)
-}
-
-/// A term as a variable or leaf inside so many arrays.
-fn peeled(terms: &[Term], term: usize) -> (usize, i64) {
-    match terms[term] {
-        Term::Array(element) => {
-            let (base, depth) = peeled(terms, element);
-            (base, depth + 1)
-        }
-        _ => (term, 0),
-    }
-}
-
-/// The decision by depths: a plain closed type is a leaf inside so many arrays, so an equation says that two leaves are the same and
-/// how far two depths are apart. Depths spread from one base over the equations; they must agree, be 0 at a leaf and at a number
-/// variable, and nowhere be negative.
-fn solvable_by_depths(system: &System) -> bool {
-    let edges: Vec<(usize, usize, i64)> = system
-        .equations
-        .iter()
-        .flatten()
-        .map(|(left, right)| {
-            let ((left, outer), (right, inner)) = (peeled(&system.terms, *left), peeled(&system.terms, *right));
-            (left, right, outer - inner)
-        })
-        .collect();
-    let mut depths: Vec<Option<i64>> = vec![None; system.terms.len()];
-    (0..system.terms.len()).all(|start| depths[start].is_some() || component(system, &edges, start, &mut depths))
-}
-
-/// Whether the bases that the equations link with this one have types.
-fn component(system: &System, edges: &[(usize, usize, i64)], start: usize, depths: &mut [Option<i64>]) -> bool {
-    depths[start] = Some(0);
-    let (mut members, mut at) = (vec![start], 0);
-    while at < members.len() {
-        let (base, depth) = (members[at], depths[members[at]].unwrap());
-        at += 1;
-        let both = |&(left, right, apart): &(usize, usize, i64)| [(left, right, apart), (right, left, -apart)];
-        for (_, other, apart) in edges.iter().flat_map(both).filter(|(from, _, _)| *from == base) {
-            match depths[other] {
-                None => {
-                    depths[other] = Some(depth + apart);
-                    members.push(other);
-                }
-                Some(known) if known != depth + apart => return false,
-                Some(_) => {}
-            }
-        }
-    }
-    has_types(system, &members, depths)
-}
-
-/// Whether one leaf and one depth of the outermost array fit all members.
-fn has_types(system: &System, members: &[usize], depths: &[Option<i64>]) -> bool {
-    let at_zero = |term: Term| !matches!(term, Term::Variable(Kind::Any) | Term::Array(_));
-    let grounds: Vec<i64> = members
-        .iter()
-        .filter(|member| at_zero(system.terms[**member]))
-        .map(|member| depths[*member].unwrap())
-        .collect();
-    let lowest = members.iter().map(|member| depths[*member].unwrap()).min().unwrap();
-    let depths_fit = grounds.iter().all(|ground| *ground == grounds[0] && *ground <= lowest);
-    let fits = |leaf: Leaf| {
-        members.iter().all(|member| match system.terms[*member] {
-            Term::Leaf(other) => other == leaf,
-            Term::Variable(kind) => admitted(kind, leaf),
-            Term::Array(_) => true,
-        })
-    };
-    depths_fit && LEAVES.into_iter().any(fits)
-}
-
 /// Whether the types are a solution: arrays of their elements' types, leaves themselves, variables by their kinds, sides the same.
 fn is_solution(system: &System, types: &[Closed]) -> bool {
     let each = system.terms.iter().zip(types).all(|(term, ty)| match term {
@@ -227,7 +124,7 @@ fn random_systems_are_decided_as_by_depths() {
         let system = random_system(&mut random);
         let all: Vec<usize> = (0..system.equations.len()).collect();
         let solution = system.solution(&all);
-        assert_eq!(solution.is_some(), solvable_by_depths(&system), "{system:?}");
+        assert_eq!(solution.is_some(), depths::solvable(&system, &all), "{system:?}");
         match solution {
             Some(types) => assert!(is_solution(&system, &types), "{system:?} {types:?}"),
             None => assert_eq!(not_minimal(&system, &minimal_conflict(&system)), None, "{system:?}"),

@@ -1,9 +1,12 @@
 //! The original checker, document 01's rules, and bodies to compare them on.
+mod by_hand;
 mod cases;
 mod conflicts;
 mod features;
 mod many;
+mod run_files;
 mod sample;
+mod shortest;
 mod text;
 mod wrong;
 
@@ -29,14 +32,19 @@ usage: reference report [FILE]        what the original gives for a body, in doc
                                       and the sides of each; N the bytes of the lent output
        reference quarrels SEED COUNT  the tool on generated bodies with a failed equation, until COUNT are answered 0: counts, and
                                       whether each set is minimal
+       reference shortest NUMBER [where] [--room N] [FILE]   the search of request n, with the number of subsets it may test
+       reference shortests SEED COUNT the search on COUNT generated bodies whose set of request f has two equations or more, with several
+                                      numbers each: counts, and whether each is right by other means
        reference test FILE..          the cases of these files through both programs
        reference test-quarrels FILE   the cases of this file through the tool of request f
+       reference test-shortest FILE   the cases of this file through the search of request n
        reference replay DIR           the recorded samples in DIR through the rules, against what is recorded
        reference wrong LIST WORKSPACE DIR   wrong versions of the rules' program on the recorded samples
        reference sample DIR LENT FILE..   writes the recorded samples to DIR, with the cases of these files; those of LENT are
                                       about the lengths of the lent tables and the output
        reference sample-quarrels DIR FILE   writes the bodies of quarrel_run to DIR and what is expected of them, with the cases of
                                       this file
+       reference sample-shortest DIR FILE   the same of shortest_run
 ";
 
 fn main() -> ExitCode {
@@ -78,10 +86,14 @@ fn command(args: &[&str]) -> Result<bool, String> {
         ["many", seed, count] => Ok(many::run(number(seed)?, number(count)?)),
         ["quarrel", args @ ..] => quarrel(args),
         ["quarrels", seed, count] => Ok(conflicts::run(number(seed)?, number(count)?)),
+        ["shortest", amount, args @ ..] => shortest(number(amount)?, args),
+        ["shortests", seed, count] => Ok(shortest::run(number(seed)?, number(count)?)),
         ["stream", what, seed, count] => stream(what, number(seed)?, number(count)?),
         ["test", files @ ..] if !files.is_empty() => test(files),
-        ["test-quarrels", file] => conflicts::test(&std::fs::read_to_string(file).map_err(|e| format!("{file}: {e}"))?),
-        ["sample-quarrels", dir, file] => write_quarrels(dir, file),
+        ["test-quarrels", file] => conflicts::test(&read(file)?),
+        ["test-shortest", file] => shortest::test(&read(file)?),
+        ["sample-quarrels", dir, file] => conflicts::files(&read(file)?)?.write(dir).map(|()| true),
+        ["sample-shortest", dir, file] => shortest::files(&read(file)?)?.write(dir).map(|()| true),
         ["replay", dir] => replay(dir),
         ["wrong", list, workspace, dir] => wrong::run(list, workspace, dir),
         ["sample", dir, lent, files @ ..] => write(dir, &read_cases(&[lent])?, &read_cases(files)?),
@@ -96,6 +108,10 @@ fn show(text: String) -> Result<bool, String> {
 
 fn number(s: &str) -> Result<u64, String> {
     s.parse().map_err(|_| format!("{s} is no number"))
+}
+
+fn read(file: &str) -> Result<String, String> {
+    std::fs::read_to_string(file).map_err(|e| format!("{file}: {e}"))
 }
 
 fn bytes(file: &[&str]) -> Result<Vec<u8>, String> {
@@ -126,15 +142,26 @@ fn walk(bytes: &[u8], want: Want) -> (String, String) {
 
 /// `[where] [--room N] [FILE]`.
 fn quarrel(args: &[&str]) -> Result<bool, String> {
+    let (form, room, file) = form_and_room(args)?;
+    show(quarrel::give(&bytes(file)?, form, room).lines())
+}
+
+/// The same behind the number of subsets that may be tested.
+fn shortest(number: u64, args: &[&str]) -> Result<bool, String> {
+    let (form, room, file) = form_and_room(args)?;
+    show(quarrel::shortest::give(&bytes(file)?, number, form, room).lines())
+}
+
+/// `[where] [--room N]`, and what stands behind them.
+fn form_and_room<'a, 'b>(args: &'a [&'b str]) -> Result<(Form, Option<usize>, &'a [&'b str]), String> {
     let (form, args) = match args {
         ["where", args @ ..] => (Form::Where, args),
         args => (Form::Number, args),
     };
-    let (room, file) = match args {
-        ["--room", room, file @ ..] => (Some(number(room)? as usize), file),
-        file => (None, file),
-    };
-    show(quarrel::give(&bytes(file)?, form, room).lines())
+    match args {
+        ["--room", room, file @ ..] => Ok((form, Some(number(room)? as usize), file)),
+        file => Ok((form, None, file)),
+    }
 }
 
 fn stream(what: &str, seed: u64, count: u64) -> Result<bool, String> {
@@ -161,8 +188,7 @@ fn streamed(what: &str, seed: u64, index: u64) -> Result<String, String> {
 fn read_cases(files: &[&str]) -> Result<Vec<Case>, String> {
     let mut all = Vec::new();
     for file in files {
-        let text = std::fs::read_to_string(file).map_err(|e| format!("{file}: {e}"))?;
-        all.extend(cases::parse(&text).map_err(|e| format!("{file}: {e}"))?);
+        all.extend(cases::parse(&read(file)?).map_err(|e| format!("{file}: {e}"))?);
     }
     Ok(all)
 }
@@ -182,18 +208,9 @@ fn test(files: &[&str]) -> Result<bool, String> {
     Ok(failed == 0)
 }
 
-fn write_quarrels(dir: &str, file: &str) -> Result<bool, String> {
-    let files = conflicts::files(&std::fs::read_to_string(file).map_err(|e| format!("{file}: {e}"))?)?;
-    for (name, text) in [("stdin", files.stdin), ("stdout", files.stdout)] {
-        let path = format!("{dir}/{name}");
-        std::fs::write(&path, text).map_err(|e| format!("{path}: {e}"))?;
-    }
-    Ok(true)
-}
-
 fn replay(dir: &str) -> Result<bool, String> {
     let file = format!("{dir}/stdin");
-    let samples = std::fs::read_to_string(&file).map_err(|e| format!("{file}: {e}"))?;
+    let samples = read(&file)?;
     let mut lines = samples.lines().filter(|l| !l.is_empty() && !l.starts_with('#'));
     let (mut same, mut different) = (0, 0);
     while let Some(line) = lines.next() {

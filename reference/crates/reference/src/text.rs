@@ -53,3 +53,26 @@ pub fn flat(bytes: &[u8]) -> String {
     }
     out
 }
+
+/// A text of these bytes in which a line that stands several times in a row is a repetition.
+pub fn packed(bytes: &[u8]) -> String {
+    let lines: Vec<String> = bytes.split_inclusive(|byte| *byte == b'\n').map(flat).collect();
+    let run = |same: &[String]| match same {
+        [line] => line.clone(),
+        _ => format!("{{{}:{}}}", same.len(), same[0]),
+    };
+    lines.chunk_by(|one, other| one == other).map(run).collect()
+}
+
+#[cfg(test)]
+mod tests {
+    use super::*;
+
+    #[test]
+    fn a_packed_text_is_that_of_its_bytes() {
+        assert_eq!(packed(b"a\nb\nb\nb\na\n"), "a/{3:b/}a/");
+        for bytes in [&b""[..], b"a", b"a\na", b"a\na\n", b"#{2:x}\n#{2:x}\n\n\n\\\n", b"\n\n\n"] {
+            assert_eq!(expand(&packed(bytes)).as_deref(), Some(bytes));
+        }
+    }
+}

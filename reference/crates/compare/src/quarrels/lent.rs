@@ -51,6 +51,34 @@ unsafe extern "C" {
         told_len: usize,
         places: usize,
     ) -> usize;
+
+    #[cfg(feature = "shortest")]
+    fn nunthila_shortest(
+        s: *const u8,
+        s_len: usize,
+        rows: *mut u16,
+        rows_len: usize,
+        cells: *mut u16,
+        cells_len: usize,
+        nodes: *mut u16,
+        nodes_len: usize,
+        vars: *mut u16,
+        vars_len: usize,
+        types: *mut u16,
+        types_len: usize,
+        errors: *mut ErrorRow,
+        errors_len: usize,
+        log: *mut u16,
+        log_len: usize,
+        memory: *mut u16,
+        memory_len: usize,
+        out: *mut u8,
+        out_len: usize,
+        told: *mut usize,
+        told_len: usize,
+        places: usize,
+        number: u64,
+    ) -> usize;
 }
 
 /// The tables that are lent for a call.
@@ -157,6 +185,43 @@ impl Lent {
                 told.as_mut_ptr(),
                 told.len(),
                 places,
+            )
+        };
+        Called { returned, told, out }
+    }
+
+    /// The search of request n) on a body, with this number of subsets that it may test.
+    #[cfg(feature = "shortest")]
+    pub fn shortest(&mut self, body: &[u8], number: u64, places: usize, room: usize) -> Called {
+        let mut told = [usize::from(BEFORE); TOLD];
+        let mut out = vec![BEFORE; room];
+        // SAFETY: as in `quarrel`.
+        let returned = unsafe {
+            nunthila_shortest(
+                body.as_ptr(),
+                body.len(),
+                self.rows.as_mut_ptr(),
+                self.rows.len(),
+                self.cells.as_mut_ptr(),
+                self.cells.len(),
+                self.nodes.as_mut_ptr(),
+                self.nodes.len(),
+                self.vars.as_mut_ptr(),
+                self.vars.len(),
+                self.types.as_mut_ptr(),
+                self.types.len(),
+                self.errors.as_mut_ptr(),
+                self.errors.len(),
+                self.log.as_mut_ptr(),
+                self.log.len(),
+                self.memory.as_mut_ptr(),
+                self.memory.len(),
+                out.as_mut_ptr(),
+                out.len(),
+                told.as_mut_ptr(),
+                told.len(),
+                places,
+                number,
             )
         };
         Called { returned, told, out }
