@@ -3,8 +3,8 @@ use lib.ListN.{length, length-set}
 use Prim.Native.Nat.{_≤_, _-_}
 use mathlib.Core.Path.{_≡_, _∙_}
 use borrow.Author.Needs.{needs}
-use Rattle.quarrel_run.proofs.slash.Statement.{statement}
-use Rattle.quarrel_run.proofs.slash.Tie as tie
+use Rattle.quarrel_cases.proofs.slash.Statement.{statement}
+use Rattle.quarrel_cases.proofs.slash.Tie as tie
 
 abbrev Inv-loop : tie.InvT-loop
 Inv-loop s₀ i₀ s i = (length s ≡ length s₀) × (i ≤ length s)

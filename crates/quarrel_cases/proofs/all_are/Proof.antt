@@ -1,8 +1,8 @@
 use lib.ListN.{length}
 use Prim.Native.Nat.{_≤_, _-_}
 use borrow.Author.Needs.{needs}
-use Rattle.quarrel_run.proofs.all_are.Statement.{statement}
-use Rattle.quarrel_run.proofs.all_are.Tie as tie
+use Rattle.quarrel_cases.proofs.all_are.Statement.{statement}
+use Rattle.quarrel_cases.proofs.all_are.Tie as tie
 
 abbrev Inv-loop : tie.InvT-loop
 Inv-loop s b i₀ i = i ≤ length s

@@ -1,17 +1,17 @@
 use lib.ListN.{length}
 use Prim.Native.Nat.{_≤_, _-_}
 use borrow.Author.Needs.{needs}
-use Rattle.quarrel_run.proofs.run.Statement.{statement}
-use Rattle.quarrel_run.proofs.run.Tie as tie
+use Rattle.quarrel_cases.proofs.run_lines.Statement.{statement}
+use Rattle.quarrel_cases.proofs.run_lines.Tie as tie
 
 abbrev Inv-loop : tie.InvT-loop
-Inv-loop s room₀ at₀ room at = at ≤ length s
+Inv-loop s room₀ k at₀ room at = at ≤ length s
 
 abbrev μ-loop : tie.MeasureT-loop
-μ-loop s room₀ at₀ room at = length s - at
+μ-loop s room₀ k at₀ room at = length s - at
 
-pub run-spec : {M : Type 1} → statement M
-run-spec =
+pub run-lines-spec : {M : Type 1} → statement M
+run-lines-spec =
     tie.close (tie.spec
     Inv-loop
     μ-loop
