@@ -2,10 +2,10 @@
 // types, its variables and its log. The bindings and marks of the walk are lost; nothing else in the memory changes, so no second memory is
 // needed.
 ghost use mathlib.Core.Path.{_≡_};
-ghost use mathlib.Core.Bool.{true};
+ghost use mathlib.Core.Bool.{true, false};
 ghost use mathlib.Core.Option.{none};
 ghost use Prim.Native.Nat.{_+_, _-_, _*_, _≤_, _<_};
-ghost use lib.Dec.{ltb};
+ghost use lib.Dec.{ltb, leb};
 ghost use Rattle.output.specs.Output.{Appends};
 ghost use Rattle.type_table.specs.Memory.{cell};
 ghost use Rattle.record.specs.Own.{log-at};
@@ -462,6 +462,14 @@ enum Advanced {
     Behind,
 }
 
+// Whether the number x in the place p of k can be raised, and those behind it follow it below n.
+fn can_rise(x: u16, p: u16, k: u16, n: u16) -> bool
+    requires { ⌜ p ≤ k ⌝ }
+    ensures { λ r. ⌜ r ≡ leb (x + (k - p) + 1) n ⌝ }
+{
+    x as u32 + (k as u32 - p as u32) + 1 <= n as u32
+}
+
 // The next k numbers below n.
 fn advance(set: &mut [u16], k: u16, n: u16) -> Advanced
     ensures { λ r. ⌜ AdvancedBy (now (set .entry)) k n (now (set .exit)) r ⌝ }
@@ -470,7 +478,7 @@ fn advance(set: &mut [u16], k: u16, n: u16) -> Advanced
     while 0 < p {
         p -= 1;
         let x = memory_cells::read(set, p as usize);
-        if x as u32 + (k as u32 - p as u32) + 1 <= n as u32 {
+        if can_rise(x, p, k, n) {
             follow(set, p, k, x + 1);
             return Advanced::From(p);
         }
@@ -546,6 +554,16 @@ struct Searched {
     below: u16,
 }
 
+// The answer where no more may be tested within a size: all that are smaller were tested and have a solution.
+fn out_within(size: u16) -> Searched
+    ensures { λ r. ⌜ (r .found ≡ false) × (r .below ≡ size) ⌝ }
+{
+    Searched {
+        found: false,
+        below: size,
+    }
+}
+
 // The sets smaller than `most`.
 fn search(
     m: &mut [u16],
@@ -569,10 +587,7 @@ fn search(
                 };
             }
             Tried::Out => {
-                return Searched {
-                    found: false,
-                    below: k,
-                };
+                return out_within(k);
             }
             Tried::Through(d) => {
                 left = d;
