@@ -4,7 +4,6 @@ mod judge;
 mod ours;
 mod quarrels;
 mod reader;
-#[cfg(feature = "shortest")]
 mod shortest;
 mod shrink;
 mod tables;
@@ -69,7 +68,6 @@ fn command(args: &[&str]) -> Result<bool, String> {
             Ok(tally.different() == 0)
         }
         ["quarrels", what, of] => tool(what, of, quarrels::file, quarrels::generated),
-        #[cfg(feature = "shortest")]
         ["shortest", what, of] => tool(what, of, shortest::file, shortest::generated),
         [seed, count] => {
             let (seed, count) = (number(seed)?, number(count)?);

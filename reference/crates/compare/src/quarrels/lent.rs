@@ -52,7 +52,6 @@ unsafe extern "C" {
         places: usize,
     ) -> usize;
 
-    #[cfg(feature = "shortest")]
     fn nunthila_shortest(
         s: *const u8,
         s_len: usize,
@@ -191,7 +190,6 @@ impl Lent {
     }
 
     /// The search of request n) on a body, with this number of subsets that it may test.
-    #[cfg(feature = "shortest")]
     pub fn shortest(&mut self, body: &[u8], number: u64, places: usize, room: usize) -> Called {
         let mut told = [usize::from(BEFORE); TOLD];
         let mut out = vec![BEFORE; room];
