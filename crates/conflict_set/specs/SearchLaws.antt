@@ -1,12 +1,11 @@
 -- What the promises of the search rest on, over plain variables.
-use mathlib.Core.Path.{_≡_, refl, sym, ap, subst, _∙_}
-use mathlib.Core.Logic.{_≢_, inl, inr, _⊎_}
+use mathlib.Core.Path.{_≡_, refl, sym, ap, _∙_}
+use mathlib.Core.Logic.{_≢_}
 use mathlib.Core.List.{List, [], _∷_, _++_, append-assoc, append-nil}
 use mathlib.Core.Option.{Option, none, some}
 use mathlib.Core.Bool.{Bool, true, false, cond}
 use Prim.Native.Nat.{ℕ, suc, zero, _+_, _-_, _*_, _≤_, _<_}
 use native.Mathlib.Omega.{arith}
-use native.Mathlib.Nat.{mul-le-mul-left}
 use native.Mathlib.Decide.{decLt, ℕ-discrete}
 use lib.ListN.{length, set, length-set, List·getD-eq-default}
 use lib.Seq.{getD-set-same, getD-set-other}
@@ -23,29 +22,28 @@ use Rattle.type_table.specs.declared.Bound.the-variants as binding
 use Rattle.type_table.specs.Memory.{pick, cell, most-vars, headAt, numberAt, outputAt, firstAt, countAt, inputsFrom, shapeOf, bindingAt, markAt, bindsOf, marksOf, memOf, varCell}
 use Rattle.type_table.specs.View.{boundCode}
 use Rattle.type_table.specs.View as view
-use Rattle.type_table.specs.Tables.{length-rows, length-binds, bound-at, tab-set, tab-ext}
+use Rattle.type_table.specs.Tables.{length-binds, bound-at, tab-set, tab-ext}
 use Rattle.type_table.specs.Frames.{cell-other}
 use Rattle.type_table.specs.Heads.{head-low, shape-cases, row-by}
 use Rattle.unify.specs.Promise.{rowsIn, kindsIn, memIn}
+use Rattle.unify.specs.Steps.{steps, fuel-is}
 use Rattle.conflict_theory.specs.Test.{isSuccess, blank, unified, ok}
 use Rattle.conflict_theory.specs.Worked.{PlainPair, from, from-below}
 use Rattle.conflict_theory.specs.Subsets.{next, next-below}
-use Rattle.conflict_theory.specs.Search.{found, out, through, tested, onwardTo}
+use Rattle.conflict_theory.specs.Search.{found, tested, onwardTo}
 use Rattle.conflict_theory.specs.Code.{added, unified-last, ok-stays, onNext, triesIn, searchIn}
-use Rattle.conflict_theory.specs.OneBound.{endVar, endShape, openEnd, opened, isSome, isBound, boundOne, set-open, boundBy, unified-plain, added-back}
+use Rattle.conflict_theory.specs.OneBound.{endVar, endShape, openEnd, opened, isSome, boundOne, set-open, boundBy, unified-plain, added-back}
 use Rattle.conflict_theory.specs.Plains.{arePlain, sides-plain}
 use Rattle.conflict_set.specs.declared.Lead.{Lead}
 use Rattle.conflict_set.specs.declared.Lead.the-variants as lead
-use Rattle.conflict_set.specs.declared.Pushed.{Pushed}
 use Rattle.conflict_set.specs.declared.Pushed.the-variants as pushed
-use Rattle.conflict_set.specs.declared.Advanced.{Advanced}
 use Rattle.conflict_set.specs.declared.Advanced.the-variants as advanced
 use Rattle.conflict_set.specs.declared.Tried.{Tried}
 use Rattle.conflict_set.specs.declared.Tried.the-variants as tried
 use Rattle.conflict_set.specs.declared.Searched.{Searched}
 use Rattle.conflict_set.specs.In.{Whole, Kept, pairIn, cellsFrom, listIn, allFrom, plainTo, addedIn, unifiedIn, reopened, Told, AddedBy}
-use Rattle.conflict_set.specs.Laws.{kept-self, kept-on, whole-on, rows-on, kinds-on, pairs-on, cells-last, cells-same, list-last, reopened-kept, reopened-mem, kinds-count}
-use Rattle.conflict_set.specs.Searching.{leadVar, leadIn, numberOf, endIn, ifBound, boundIn, openedIn, okIn, PushedIs, PushedBy, Stacked, PlainPlaces, PushedTo, PushedFrom, PoppedBy, FollowedBy, AdvancedTo, AdvancedBy, outcomeOf, PlainTo, Below, TriedBy, FirstTriedBy, searchedOf, SearchedBy}
+use Rattle.conflict_set.specs.Laws.{kept-self, kept-on, whole-on, rows-on, kinds-on, pairs-on, cells-last, list-last, reopened-kept, reopened-mem, kinds-count}
+use Rattle.conflict_set.specs.Searching.{leadVar, leadIn, numberOf, endIn, ifBound, boundIn, openedIn, okIn, PushedIs, PushedBy, Stacked, PlainPlaces, PushedTo, PushedFrom, PoppedBy, FollowedBy, AdvancedBy, outcomeOf, PlainTo, Below, TriedBy, FirstTriedBy, SearchedBy}
 
 -- ── ends ──
 
@@ -86,21 +84,13 @@ module _ (m : List ℕ) (c : Counts) where
       ∙ end-shape (rowsIn m c) (bindsOf m (c .vars)) (endTo n) h a (outputAt m (c .types) y) (inputsFrom m (firstAt m (c .types) y) (countAt m (c .types) y)) (head-low m (c .types) y)
       ∙ sym (by-cases (endTo n) (eqb h 8) (eqb h 12) (lead.On a) (leadVar a (bindingAt m (c .vars) a)) lead.Nowhere ∙ rw (bound-at m (c .vars) a) (ap (λ z. pick (eqb h 8) (endTo n a) (pick (eqb h 12) z none)) (lead-var (bindsOf m (c .vars)) (endTo n) a (bindingAt m (c .vars) a))))
 
-  -- as many steps as unification has
-  abbrev pub steps : ℕ
-  steps = c .vars * (c .types + c .types + 1) + (c .types + c .types) + 1
-
-  fuel-is : fuel (rowsIn m c) (memIn m c) ≡ steps
-  unfolding memOf
-  fuel-is = rw (length-binds m (c .vars), length-rows m (c .types)) (let z : suc (c .types + c .types) ≡ c .types + c .types + 1 = omega arith in rw z (omega arith))
-
   -- from the row y, with n steps left
   abbrev pub Leads : ℕ → ℕ → ℕ → Type 0
   Leads x y n = numberOf (endTo n y) ≡ endIn m c x
 
-  pub leads-start : (x n : ℕ) → n ≡ steps → Leads x x n
+  pub leads-start : (x n : ℕ) → n ≡ steps c → Leads x x n
   unfolding endIn
-  leads-start x n e = rw (fuel-is, e) refl
+  leads-start x n e = rw (fuel-is m c, e) refl
 
   module _ (x y n k : ℕ) (z : 0 < n) (e : k ≡ n - 1) (g : Leads x y n) where
     step-is : endTo n y ≡ byLead (endTo k) (leadIn m c y)
@@ -625,13 +615,3 @@ all-each f i (suc n) e k a b = by (ℕ-discrete k i) (all-each f (suc i) n (and-
 pub plain-each : (m : List ℕ) (c : Counts) (n : ℕ) → plainTo m c n ≡ true → PlainTo m c n
 unfolding plainTo
 plain-each m c n e i l = sides-plain (rowsIn m c) (pairIn m c i) (all-each (λ i. arePlain (rowsIn m c) (pairIn m c i)) 0 n e i (omega arith) (omega arith))
-
--- the number of steps fits
-pub product : (v w : ℕ) → v < 65536 → w < 131072 → v * w < 8589934592
-product v w h k = omega (arith, mul-le-mul-left v (le w k))
-  where
-    le : (w : ℕ) → w < 131072 → w ≤ 131072
-    le w k = omega arith
-
-pub product-fits : (v w : ℕ) → v < 65536 → w < 131072 → v * w < 18446744073709551616
-product-fits v w h k = omega (arith, product v w h k)

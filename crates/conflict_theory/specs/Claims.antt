@@ -1,7 +1,7 @@
 -- What is claimed of requests f) and n), one citation each: of the log of any walk, whatever it walks over. Start here. Each assumption is an argument of the statement.
 -- `Solvable` and `Unsolvable`, `Left` and `Minimal` are in Deletion, `Goes` and `Below` in Search, `Shortest` in Shortest, `NoneFails` and `AllMet` in CommonSolution: none of
 -- them runs a checker. `conflictOf`, the set that f)'s promise names, is in Worked; `shortestOf`, the answer that n)'s names, in Shortest.
-use mathlib.Core.Path.{_≡_, refl, sym, subst, _∙_}
+use mathlib.Core.Path.{_≡_, refl, sym, ap, subst, _∙_}
 use mathlib.Core.Logic.{_↔_}
 use mathlib.Core.List.{List, [], _∷_, map}
 use mathlib.Core.Option.{Option, some}
@@ -9,8 +9,8 @@ use mathlib.Core.Bool.{true, false}
 use Prim.Native.Nat.{ℕ, _-_, _<_}
 use native.Mathlib.Omega.{arith}
 use lib.ListN.{length}
-use Rattle.theory.specs.Rules.{nil, double, int, w64, Shape, Kind, regular, integer, floating, Pair, kind}
-use Rattle.theory.specs.Program.{Equation, Prog, run}
+use Rattle.theory.specs.Rules.{nil, double, int, w64, Shape, Kind, regular, integer, floating, success, Mem, Pair, kind}
+use Rattle.theory.specs.Program.{Equation, Prog, run, fuel}
 use Rattle.theory.specs.Basics.{All, all-map2}
 use Rattle.theory.specs.Ways.{Ty, basic, Way, tyFits, Kinded, Inside, Sided}
 use Rattle.theory.specs.Demand.{Claim}
@@ -19,12 +19,14 @@ use Rattle.theory.specs.Solve.{Posed, Solves}
 use Rattle.conflict_theory.specs.Sets.{Part}
 use Rattle.conflict_theory.specs.Deletion.{Solvable, Unsolvable, Left, Minimal, left-minimal, left-one, leave-left}
 use Rattle.conflict_theory.specs.Scan.{scan, scan-left}
-use Rattle.conflict_theory.specs.Code.{scanIn, searchIn, scan-same, search-same}
+use Rattle.conflict_theory.specs.Code.{added, scanIn, searchIn, scan-same, search-same}
+use Rattle.conflict_theory.specs.Marks.{Unmarked}
+use Rattle.conflict_theory.specs.OneBound.{PlainBinds, OneBound, opened, boundBy, binds-one, added-back}
 use Rattle.conflict_theory.specs.Subsets.{Picks, picks-part, from-distinct, from-length, picks-length}
 use Rattle.conflict_theory.specs.Search.{search-agree}
 use Rattle.conflict_theory.specs.Shortest.{shortestOf, left-picks, Shortest, search-shortest}
 use Rattle.conflict_theory.specs.CommonSolution.{NoneFails, AllMet, none-fails-exactly}
-use Rattle.conflict_theory.specs.Test.{Sound, MeetsAt, unified, ok, ok-yes, ok-no}
+use Rattle.conflict_theory.specs.Test.{Sound, MeetsAt, isSuccess, unified, ok, ok-yes, ok-no}
 use Rattle.conflict_theory.specs.Worked.{untilFailed, inOrder, sidesAt, numbers, PlainPair, plain-sided, conflictOf, None13, order-all, each-at, from-below, untilFailed-part, worked-none}
 use Rattle.conflict_theory.specs.Thirteen.{ZeroOr12}
 use Rattle.conflict_theory.specs.Thirteen as thirteen
@@ -158,3 +160,12 @@ module _ (rows : List Shape) (kinds : List Kind) (b : List (Option ℕ)) (log : 
 -- n), last sentence, of a log with demand 3's sides: "no equation fails or is refused 12 exactly if all of them have a common solution"
 pub common-solution : (rows : List Shape) (kinds : List Kind) (b : List (Option ℕ)) (log : List Equation) → Claim rows kinds b log → None13 log → All (Sided rows) log → NoneFails log ↔ AllMet rows kinds log
 common-solution = none-fails-exactly
+
+-- what the search of the code rests on: a plain equation that goes through binds nothing, or one variable, which was open and to which one of its sides leads; opening that one
+-- again takes the equation back
+module _ (rows : List Shape) (kinds : List Kind) (at : ℕ → Pair) (plain : (i : ℕ) → PlainPair rows (at i)) (m : Mem) (binds : PlainBinds rows kinds (m .binds)) (unmarked : Unmarked m) (i : ℕ) (met : (added rows kinds at m i) .0 ≡ success) where
+  pub one-bound : OneBound rows kinds (fuel rows m) m ((at i) .0) ((at i) .1) ((added rows kinds at m i) .1)
+  one-bound = binds-one rows kinds m (at i) binds unmarked (plain i) met
+
+  pub taken-back : opened (boundBy rows kinds at m i) ((added rows kinds at m i) .1) ≡ m
+  taken-back = added-back rows kinds at (λ i. Unit {0}) (λ i h. plain i) m i binds unmarked tt (ap isSuccess met)

@@ -1,19 +1,19 @@
 -- A plain equation that goes through binds at most one variable, an open one to which a side leads through arrays and bindings; opening that one again takes the equation
 -- back. Assumes plain sides (`PlainPair`), plain bindings (`PlainBinds`) and no mark.
 use mathlib.Core.Path.{_≡_, refl, sym, ap, _∙_}
-use mathlib.Core.Logic.{_⊎_, inl, inr, _≢_}
-use mathlib.Core.List.{List, [], _∷_, _++_, map}
+use mathlib.Core.Logic.{_⊎_, inl, inr}
+use mathlib.Core.List.{List, [], _∷_, map}
 use mathlib.Core.Option.{Option, none, some}
 use mathlib.Core.Bool.{Bool, true, false, cond}
 use Prim.Native.Nat.{ℕ, suc, zero}
 use native.Mathlib.Decide.{ℕ-discrete}
 use lib.ListN.{length, set}
 use lib.Seq.{getD-set-other}
-use Rattle.theory.specs.Rules.{Base, Shape, base, var, arr, ref, fn, fun, lam, err, div, Kind, Out, success, mismatch, refused12, refused13, dry, Mem, Pair, Res, Act, go, at, kids, asVar, row, kind, fits, bound, iter, split, atVar, act, head, choose, exchanged, roles, right, left}
-use Rattle.theory.specs.Rules.{Found, free, ring, inside, lost, seek, pass, bind, isSame, settle, chase, other, suits, perform, move, unify, onward, marked}
+use Rattle.theory.specs.Rules.{Base, Shape, base, var, arr, ref, fn, fun, lam, err, div, Kind, Out, success, mismatch, refused12, refused13, dry, Mem, Pair, Res, go, at, asVar, row, kind, fits, bound, iter, split, atVar, act, choose, exchanged}
+use Rattle.theory.specs.Rules.{Found, free, ring, inside, lost, seek, pass, bind, isSame, settle, chase, other, suits, move, unify, onward}
 use Rattle.theory.specs.Program.{fuel, solve}
 use Rattle.theory.specs.Basics.{All, all-map, clash}
-use Rattle.theory.specs.Choice.{choose-base-var, choose-base-array, choose-var-base, choose-array-base, choose-diverges, none-kept, actOfBases, ByEquality, act-bases}
+use Rattle.theory.specs.Choice.{choose-base-var, choose-base-array, choose-var-base, choose-array-base, choose-diverges, actOfBases, ByEquality, act-bases}
 use Rattle.theory.specs.Ways.{Plain, plain-base, plain-var, plain-array}
 use Rattle.theory.specs.Solve.{solves}
 use Rattle.conflict_theory.specs.Marks.{Unmarked, solve-calm}

@@ -3,22 +3,21 @@ use mathlib.Core.Path.{_≡_, refl, sym, ap, _∙_}
 use mathlib.Core.Logic.{_≢_}
 use mathlib.Core.List.{List, _∷_}
 use mathlib.Core.Bool.{Bool, true, false, cond}
-use Prim.Native.Nat.{ℕ, suc, zero, _+_, _-_, _*_, _≤_, _<_}
+use Prim.Native.Nat.{ℕ, suc, zero, _+_, _-_, _≤_, _<_}
 use native.Mathlib.Omega.{arith}
 use native.Mathlib.Numerals.{add-one, sub-one}
 use lib.ListN.{length, take}
 use lib.Dec.{eqb, ltb}
 use borrow.Author.Tests.{eq-eqb, ne-eqb, lt-ltb, le-ltb}
 use native.Mathlib.Decide.{decLt}
-use native.Mathlib.Nat.{mul-le-mul-left}
 use Rattle.theory.specs.Rules.{success, mismatch, dry, numbersOf, Mem, Res, row, kids, split, zip, go, perform, each, andThen, move, unify}
 use Rattle.type_table.specs.declared.Counts.{Counts}
 use Rattle.type_table.specs.declared.TypeId.{TypeId}
 use Rattle.type_table.specs.declared.InputRange.{InputRange}
-use Rattle.type_table.specs.Memory.{pick, counts, cell, inputs-at, outputAt, firstAt, countAt, inputsFrom, memOf, Held}
-use Rattle.theory.specs.Program.{clip, fuel, solve}
+use Rattle.type_table.specs.Memory.{pick, counts, cell, inputs-at, outputAt, firstAt, countAt, inputsFrom, Held}
+use Rattle.theory.specs.Program.{clip, solve}
 use Rattle.unify.specs.declared.Answer.{Answer}
-use Rattle.type_table.specs.Tables.{length-rows, length-binds, length-inputs}
+use Rattle.type_table.specs.Tables.{length-inputs}
 use Rattle.unify.specs.declared.Reply.{Reply}
 use Rattle.unify.specs.declared.Reply.the-variants.{Success, Mismatch, Refused12, Refused13, Dry}
 use Rattle.unify.specs.declared.Next.{Next}
@@ -27,6 +26,7 @@ use Rattle.unify.specs.Leaf.{outK}
 use Rattle.unify.specs.Step.{Rec, resume, Parted, Stepped}
 use Rattle.unify.specs.Unify.{isSuccess, Ran, by, Unified, Entered, Eached, answerOf}
 use Rattle.unify.specs.Frames.{frame-same, frame-trans, held-on, rows-same, kinds-same, inputs-same}
+use Rattle.unify.specs.Steps.{steps, fuel-is}
 use Rattle.unify.specs.Promise.{Frame, Solved, answerIs, heldIn, kindsIn, memIn, numbers, rowsIn, solveIn}
 
 -- a success goes on
@@ -229,26 +229,12 @@ number-is Refused13 = refl
 number-is Dry = refl
 
 module _ (m : List ℕ) (c d : Counts) (x y e g : TypeId) (pd : d ≡ heldIn m c) (pe : e .0 ≡ clip (d .types) (x .0)) (pg : g .0 ≡ clip (d .types) (y .0)) where
-  steps : fuel (rowsIn m d) (memIn m d) ≡ d .vars * (d .types + d .types + 1) + (d .types + d .types) + 1
-  unfolding memOf
-  steps = let i : suc (d .types + d .types) ≡ d .types + d .types + 1 = omega arith in rw (length-binds m (d .vars), length-rows m (d .types), i) (omega arith)
-
-  pub unify-solved : (w : List ℕ) (a : Reply) (r : Answer) → Unified m d e g (d .vars * (d .types + d .types + 1) + (d .types + d .types) + 1) w a → r ≡ answerOf a → Solved m c x y w r
+  pub unify-solved : (w : List ℕ) (a : Reply) (r : Answer) → Unified m d e g (steps d) w a → r ≡ answerOf a → Solved m c x y w r
   unfolding solveIn solve
   unify-solved w a r u q = rw (← pd) (record { frame = (run .0); answer = q ∙ answer-is a ∙ ap (λ (z : Res). answerIs (z .0)) (sym told); number = ap numbers q ∙ number-is a ∙ ap (λ (z : Res). numbersOf (z .0)) (sym told); memory = ap (λ (z : Res). z .1) (sym told) })
     where
-      run : Ran m d w a (by m d (d .vars * (d .types + d .types + 1) + (d .types + d .types) + 1) (memIn m d) (e .0) (g .0))
+      run : Ran m d w a (by m d (steps d) (memIn m d) (e .0) (g .0))
       run = u (rw pd (held-is m c))
 
       told : solveIn m d (x .0) (y .0) ≡ (outK a, memIn w d)
-      told = rw (← pe, ← pg, steps) (run .1)
-
--- the number of steps fits
-pub product : (v w : ℕ) → v < 65536 → w < 131072 → v * w < 8589934592
-product v w h k = omega (arith, mul-le-mul-left v (le w k))
-  where
-    le : (w : ℕ) → w < 131072 → w ≤ 131072
-    le w k = omega arith
-
-pub product-fits : (v w : ℕ) → v < 65536 → w < 131072 → v * w < 18446744073709551616
-product-fits v w h k = omega (arith, product v w h k)
+      told = rw (← pe, ← pg, fuel-is m d) (run .1)

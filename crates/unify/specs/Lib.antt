@@ -1,4 +1,5 @@
 pub mod Promise
+pub mod Steps
 pub mod Leaf
 pub mod Step
 pub mod Unify

@@ -1,7 +1,8 @@
 use native.Mathlib.Omega.{arith}
 use Prim.Native.Nat.{_+_}
 use mathlib.Core.Path.{refl, sym, _∙_}
-use Rattle.conflict_set.specs.SearchLaws.{Leads, leads-start, leads-on, leads-open, leads-nowhere, leads-end, product, product-fits}
+use Rattle.conflict_set.specs.SearchLaws.{Leads, leads-start, leads-on, leads-open, leads-nowhere, leads-end}
+use Rattle.unify.specs.Steps.{product, product-fits}
 use borrow.Author.Needs.{needs}
 use Rattle.conflict_set.proofs.open_end.Statement.{statement}
 use Rattle.conflict_set.proofs.open_end.Tie as tie

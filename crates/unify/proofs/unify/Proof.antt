@@ -1,5 +1,6 @@
 use borrow.Author.Needs.{needs}
-use Rattle.unify.proofs.UniLaws.{unify-solved, product, product-fits}
+use Rattle.unify.proofs.UniLaws.{unify-solved}
+use Rattle.unify.specs.Steps.{product, product-fits}
 use native.Mathlib.Omega.{arith}
 use Prim.Native.Nat.{_+_}
 use Rattle.unify.proofs.unify.Statement.{statement}
