@@ -43,7 +43,7 @@ use Rattle.conflict_set.specs.declared.Tried.the-variants as tried
 use Rattle.conflict_set.specs.declared.Searched.{Searched}
 use Rattle.conflict_set.specs.In.{Whole, Kept, pairIn, cellsFrom, listIn, allFrom, plainTo, addedIn, unifiedIn, reopened, Told, AddedBy}
 use Rattle.conflict_set.specs.Laws.{kept-self, kept-on, whole-on, rows-on, kinds-on, pairs-on, cells-last, list-last, reopened-kept, reopened-mem, kinds-count}
-use Rattle.conflict_set.specs.Searching.{leadVar, leadIn, numberOf, endIn, ifBound, boundIn, openedIn, okIn, PushedIs, PushedBy, Stacked, PlainPlaces, PushedTo, PushedFrom, PoppedBy, FollowedBy, AdvancedBy, outcomeOf, PlainTo, Below, TriedBy, FirstTriedBy, SearchedBy}
+use Rattle.conflict_set.specs.Searching.{leadVar, leadIn, varNumber, openEndIn, ifBound, boundEnd, openedIn, okIn, PushedIs, PushedBy, Stacked, PlainPlaces, PushedTo, PushedFrom, PoppedBy, FollowedBy, AdvancedBy, outcomeOf, PlainTo, NumbersBelow, TriedBy, FirstTriedBy, SearchedBy}
 
 -- ── ends ──
 
@@ -86,10 +86,10 @@ module _ (m : List ℕ) (c : Counts) where
 
   -- from the row y, with n steps left
   abbrev pub Leads : ℕ → ℕ → ℕ → Type 0
-  Leads x y n = numberOf (endTo n y) ≡ endIn m c x
+  Leads x y n = varNumber (endTo n y) ≡ openEndIn m c x
 
   pub leads-start : (x n : ℕ) → n ≡ steps c → Leads x x n
-  unfolding endIn
+  unfolding openEndIn
   leads-start x n e = rw (fuel-is m c, e) refl
 
   module _ (x y n k : ℕ) (z : 0 < n) (e : k ≡ n - 1) (g : Leads x y n) where
@@ -97,15 +97,15 @@ module _ (m : List ℕ) (c : Counts) where
     step-is = let d : n ≡ suc k = omega arith in rw d (end-step k y)
 
     pub leads-on : (w : ℕ) → lead.On w ≡ leadIn m c y → Leads x w k
-    leads-on w p = sym (ap numberOf (step-is ∙ ap (byLead (endTo k)) (sym p))) ∙ g
+    leads-on w p = sym (ap varNumber (step-is ∙ ap (byLead (endTo k)) (sym p))) ∙ g
 
-    pub leads-open : (v : ℕ) → lead.Open v ≡ leadIn m c y → v ≡ endIn m c x
-    leads-open v p = sym (ap numberOf (step-is ∙ ap (byLead (endTo k)) (sym p))) ∙ g
+    pub leads-open : (v : ℕ) → lead.Open v ≡ leadIn m c y → v ≡ openEndIn m c x
+    leads-open v p = sym (ap varNumber (step-is ∙ ap (byLead (endTo k)) (sym p))) ∙ g
 
-    pub leads-nowhere : lead.Nowhere ≡ leadIn m c y → 65535 ≡ endIn m c x
-    leads-nowhere p = sym (ap numberOf (step-is ∙ ap (byLead (endTo k)) (sym p))) ∙ g
+    pub leads-nowhere : lead.Nowhere ≡ leadIn m c y → 65535 ≡ openEndIn m c x
+    leads-nowhere p = sym (ap varNumber (step-is ∙ ap (byLead (endTo k)) (sym p))) ∙ g
 
-  pub leads-end : (x y n : ℕ) → n ≤ 0 → Leads x y n → 65535 ≡ endIn m c x
+  pub leads-end : (x y n : ℕ) → n ≤ 0 → Leads x y n → 65535 ≡ openEndIn m c x
   unfolding openEnd
   leads-end x y n z g = let d : n ≡ 0 = omega arith in rw d at g
 
@@ -135,16 +135,16 @@ module _ (m : List ℕ) (c : Counts) where
     lead-nowhere k e = rw (← p, ne-eqb h 8 k, ne-eqb h 12 e) refl
 
 -- of two ends, the one that is bound
-pub bound-first : (m : List ℕ) (c : Counts) (v : VarId) (a b : ℕ) (r : Bound) (x : ℕ) → v .0 ≡ a → r ≡ view.boundIn m c v → r ≡ binding.To (view.type x) → a ≡ boundIn m c a b
-unfolding boundIn view.boundIn
+pub bound-first : (m : List ℕ) (c : Counts) (v : VarId) (a b : ℕ) (r : Bound) (x : ℕ) → v .0 ≡ a → r ≡ view.boundIn m c v → r ≡ binding.To (view.type x) → a ≡ boundEnd m c a b
+unfolding boundEnd view.boundIn
 bound-first m c v a b r x s e t = by (bindingAt m (c .vars) a) (sym t ∙ e ∙ ap (λ i. boundCode (bindingAt m (c .vars) i)) s)
   where
     by : (o : Option ℕ) → binding.To (view.type x) ≡ boundCode o → a ≡ ifBound o a b
     by none d = clash (cc)
     by (some r) d = refl
 
-pub bound-second : (m : List ℕ) (c : Counts) (v : VarId) (a b : ℕ) (r : Bound) → v .0 ≡ a → r ≡ view.boundIn m c v → r ≡ binding.Open → b ≡ boundIn m c a b
-unfolding boundIn view.boundIn
+pub bound-second : (m : List ℕ) (c : Counts) (v : VarId) (a b : ℕ) (r : Bound) → v .0 ≡ a → r ≡ view.boundIn m c v → r ≡ binding.Open → b ≡ boundEnd m c a b
+unfolding boundEnd view.boundIn
 bound-second m c v a b r s e t = by (bindingAt m (c .vars) a) (sym t ∙ e ∙ ap (λ i. boundCode (bindingAt m (c .vars) i)) s)
   where
     by : (o : Option ℕ) → binding.Open ≡ boundCode o → b ≡ ifBound o a b
@@ -157,11 +157,11 @@ bound-second m c v a b r s e t = by (bindingAt m (c .vars) a) (sym t ∙ e ∙ a
 past-open : (b : List (Option ℕ)) (v : ℕ) → length b ≤ v → bound b v ≡ none
 past-open b v h = List·getD-eq-default b none {n = v} h
 
-if-number : (b : List (Option ℕ)) (e g : Option ℕ) → length b ≤ 65535 → ifBound (bound b (numberOf e)) (numberOf e) (numberOf g) ≡ numberOf (boundOne b e g)
+if-number : (b : List (Option ℕ)) (e g : Option ℕ) → length b ≤ 65535 → ifBound (bound b (varNumber e)) (varNumber e) (varNumber g) ≡ varNumber (boundOne b e g)
 if-number b none g h = rw (past-open b 65535 h) refl
 if-number b (some v) g h = by (bound b v)
   where
-    by : (o : Option ℕ) → ifBound o v (numberOf g) ≡ numberOf (cond (isSome o) (some v) g)
+    by : (o : Option ℕ) → ifBound o v (varNumber g) ≡ varNumber (cond (isSome o) (some v) g)
     by none = refl
     by (some r) = refl
 
@@ -173,15 +173,15 @@ few-vars : (w : List ℕ) (c : Counts) → c .vars ≤ most-vars → length (mem
 unfolding memOf
 few-vars w c h = omega (arith, length-binds w (c .vars))
 
-module _ (m : List ℕ) (c : Counts) (i : ℕ) (x y a b : ℕ) (p : x ≡ (pairIn m c i) .0) (q : y ≡ (pairIn m c i) .1) (e : a ≡ endIn m c x) (g : b ≡ endIn m c y) (w : List ℕ) where
-  pub push-bound : (v : ℕ) → AddedBy m c i w true → v ≡ boundIn w c a b → PushedBy m c i w (pushed.Bound v)
-  unfolding boundIn boundBy endIn
+module _ (m : List ℕ) (c : Counts) (i : ℕ) (x y a b : ℕ) (p : x ≡ (pairIn m c i) .0) (q : y ≡ (pairIn m c i) .1) (e : a ≡ openEndIn m c x) (g : b ≡ openEndIn m c y) (w : List ℕ) where
+  pub push-bound : (v : ℕ) → AddedBy m c i w true → v ≡ boundEnd w c a b → PushedBy m c i w (pushed.Bound v)
+  unfolding boundEnd boundBy openEndIn
   push-bound v t d =
       record {
         by = λ h.
             let k = t .by h in
             let n = few-vars w c (h .vars) in
-            (k, d ∙ ap (λ (o : Option ℕ). ifBound o a b) (sym (bound-in w c a)) ∙ rw (e, g, p, q) (if-number (memIn w c .binds) (openEnd (rowsIn m c) (memIn m c .binds) (fuel (rowsIn m c) (memIn m c)) ((pairIn m c i) .0)) (openEnd (rowsIn m c) (memIn m c .binds) (fuel (rowsIn m c) (memIn m c)) ((pairIn m c i) .1)) n) ∙ ap (λ (z : Mem). numberOf (boundOne (z .binds) (openEnd (rowsIn m c) (memIn m c .binds) (fuel (rowsIn m c) (memIn m c)) ((pairIn m c i) .0)) (openEnd (rowsIn m c) (memIn m c .binds) (fuel (rowsIn m c) (memIn m c)) ((pairIn m c i) .1)))) (k .memory));
+            (k, d ∙ ap (λ (o : Option ℕ). ifBound o a b) (sym (bound-in w c a)) ∙ rw (e, g, p, q) (if-number (memIn w c .binds) (openEnd (rowsIn m c) (memIn m c .binds) (fuel (rowsIn m c) (memIn m c)) ((pairIn m c i) .0)) (openEnd (rowsIn m c) (memIn m c .binds) (fuel (rowsIn m c) (memIn m c)) ((pairIn m c i) .1)) n) ∙ ap (λ (z : Mem). varNumber (boundOne (z .binds) (openEnd (rowsIn m c) (memIn m c .binds) (fuel (rowsIn m c) (memIn m c)) ((pairIn m c i) .0)) (openEnd (rowsIn m c) (memIn m c .binds) (fuel (rowsIn m c) (memIn m c)) ((pairIn m c i) .1)))) (k .memory));
       }
 
   pub push-failed : AddedBy m c i w false → PushedBy m c i w pushed.Failed
@@ -197,7 +197,7 @@ module _ (m₀ : List ℕ) (c : Counts) (h : Whole m₀ c) where
   same-bound : (m : List ℕ) → Kept m₀ c m → (i : ℕ) → boundBy (rowsIn m c) (kindsIn m c) (pairIn m c) (memIn m c) i ≡ boundBy (rowsIn m₀ c) (kindsIn m₀ c) (pairIn m₀ c) (memIn m c) i
   same-bound m k i = rw (rows-on m₀ c m k h, kinds-on m₀ c m k h, pairs-on m₀ c m k h) refl
 
-  opened-number : (m : Mem) (o : Option ℕ) → length (m .binds) ≤ 65535 → opened (some (numberOf o)) m ≡ opened o m
+  opened-number : (m : Mem) (o : Option ℕ) → length (m .binds) ≤ 65535 → opened (some (varNumber o)) m ≡ opened o m
   opened-number m none l = rw (set-open (m .binds) 65535 (past-open (m .binds) 65535 l)) refl
   opened-number m (some v) l = refl
 
@@ -236,12 +236,12 @@ module _ (m₀ : List ℕ) (c : Counts) (h : Whole m₀ c) where
       placed : All Placed (listIn s j)
       placed = cells-all Placed 0 j (λ k a b. plain k (omega arith))
 
-      back-next : Told m c w true (addedIn m c q) → (v : ℕ) → v ≡ numberOf (boundBy (rowsIn m c) (kindsIn m c) (pairIn m c) (memIn m c) q) → opened (some v) ((unifiedIn m₀ c (listIn s (suc j))) .1) ≡ (unifiedIn m₀ c (listIn s j)) .1
+      back-next : Told m c w true (addedIn m c q) → (v : ℕ) → v ≡ varNumber (boundBy (rowsIn m c) (kindsIn m c) (pairIn m c) (memIn m c) q) → opened (some v) ((unifiedIn m₀ c (listIn s (suc j))) .1) ≡ (unifiedIn m₀ c (listIn s j)) .1
       back-next k v d =
           let u = (unifiedIn m₀ c (listIn s j)) .1 in
           let y = unified-plain (rowsIn m₀ c) (kindsIn m₀ c) (pairIn m₀ c) Placed (λ i p. p) (listIn s j) placed (x .solved j (omega arith)) in
           let o = boundBy (rowsIn m₀ c) (kindsIn m₀ c) (pairIn m₀ c) u q in
-          let g : v ≡ numberOf o = d ∙ ap numberOf (same-bound m (x .kept) q ∙ ap (λ z. boundBy (rowsIn m₀ c) (kindsIn m₀ c) (pairIn m₀ c) z q) (x .memory)) in
+          let g : v ≡ varNumber o = d ∙ ap varNumber (same-bound m (x .kept) q ∙ ap (λ z. boundBy (rowsIn m₀ c) (kindsIn m₀ c) (pairIn m₀ c) z q) (x .memory)) in
           let b = added-back (rowsIn m₀ c) (kindsIn m₀ c) (pairIn m₀ c) Placed (λ i p. p) u q (y .0) (y .1) (rw e (plain j (omega arith))) (sym (told-is true k .0)) in
           rw (next-is, g) (opened-number (onTop .1) o (rw (← told-is true k .1) (few-vars w c (h .vars))) ∙ b)
 
@@ -484,8 +484,8 @@ restacked m₀ c s s′ t p m f x =
 module _ (me : List ℕ) (c : Counts) (s₀ t₀ : List ℕ) (k n b : ℕ) where
   -- so many may still be tested, and those before j are solved
   abbrev pub Tries : List ℕ → List ℕ → List ℕ → ℕ → ℕ → Type 0
-  Tries m s t left j = (m₀ : List ℕ) → Whole m₀ c → PlainTo m₀ c n → k ≤ length s₀ → k ≤ length t₀ → Below s₀ k n → Stacked m₀ c s₀ t₀ 0 me
-      → Stacked m₀ c s t j m × Below s k n × (triesIn (okIn m₀ c) n left (listIn s k) ≡ triesIn (okIn m₀ c) n b (listIn s₀ k))
+  Tries m s t left j = (m₀ : List ℕ) → Whole m₀ c → PlainTo m₀ c n → k ≤ length s₀ → k ≤ length t₀ → NumbersBelow s₀ k n → Stacked m₀ c s₀ t₀ 0 me
+      → Stacked m₀ c s t j m × NumbersBelow s k n × (triesIn (okIn m₀ c) n left (listIn s k) ≡ triesIn (okIn m₀ c) n b (listIn s₀ k))
 
   pub tries-start : Tries me s₀ t₀ b 0
   tries-start m₀ h p l d a x = (x, a, refl)
@@ -496,7 +496,7 @@ module _ (me : List ℕ) (c : Counts) (s₀ t₀ : List ℕ) (k n b : ℕ) where
     tries-out z = record { size = size; room = room; by = λ m₀ h p l d a x. let y = g m₀ h p l d a x in (y .0 .kept, rw z at (y .2)) }
 
     module _ (rest : ℕ) (w u : List ℕ) (z : left ≢ 0) (e : rest ≡ left - 1) (most : j ≤ k) (r : Bool) (q : PushedFrom m c s t j k w u r) where
-      module _ (m₀ : List ℕ) (h : Whole m₀ c) (p : PlainTo m₀ c n) (l : k ≤ length s₀) (d : k ≤ length t₀) (a : Below s₀ k n) (x : Stacked m₀ c s₀ t₀ 0 me) where
+      module _ (m₀ : List ℕ) (h : Whole m₀ c) (p : PlainTo m₀ c n) (l : k ≤ length s₀) (d : k ≤ length t₀) (a : NumbersBelow s₀ k n) (x : Stacked m₀ c s₀ t₀ 0 me) where
         pushed-is : PushedTo r m₀ c s u k w
         pushed-is = let y = g m₀ h p l d a x in q .by m₀ h (λ i f. p (cell s i) (y .1 i f)) (omega arith) most (y .0)
 

@@ -39,13 +39,13 @@ unfoldable pub leadIn : List ℕ → Counts → ℕ → Lead
 leadIn m c y = let h = headAt m (c .types) y in let a = numberAt m (c .types) y in pick (eqb h 8) (lead.On a) (pick (eqb h 12) (leadVar a (bindingAt m (c .vars) a)) lead.Nowhere)
 
 -- the number of a variable, that of no variable for none
-abbrev pub numberOf : Option ℕ → ℕ
-numberOf none = 65535
-numberOf (some v) = v
+abbrev pub varNumber : Option ℕ → ℕ
+varNumber none = 65535
+varNumber (some v) = v
 
 -- the open variable to which the row x leads
-unfoldable pub endIn : List ℕ → Counts → ℕ → ℕ
-endIn m c x = numberOf (openEnd (rowsIn m c) (memIn m c .binds) (fuel (rowsIn m c) (memIn m c)) x)
+unfoldable pub openEndIn : List ℕ → Counts → ℕ → ℕ
+openEndIn m c x = varNumber (openEnd (rowsIn m c) (memIn m c .binds) (fuel (rowsIn m c) (memIn m c)) x)
 
 -- by a binding, the first of two
 abbrev pub ifBound : Option ℕ → ℕ → ℕ → ℕ
@@ -53,8 +53,8 @@ ifBound none a b = b
 ifBound (some r) a b = a
 
 -- of two ends, the first if it is bound now, else the second
-unfoldable pub boundIn : List ℕ → Counts → ℕ → ℕ → ℕ
-boundIn m c a b = ifBound (bindingAt m (c .vars) a) a b
+unfoldable pub boundEnd : List ℕ → Counts → ℕ → ℕ → ℕ
+boundEnd m c a b = ifBound (bindingAt m (c .vars) a) a b
 
 -- the variable v is opened again, of n variables
 unfoldable pub openedIn : List ℕ → ℕ → ℕ → List ℕ
@@ -68,7 +68,7 @@ okIn m c = ok (rowsIn m c) (kindsIn m c) (pairIn m c)
 
 -- what an equation more comes to
 abbrev pub PushedIs : List ℕ → Counts → ℕ → List ℕ → Pushed → Type 0
-PushedIs m c i w (pushed.Bound v) = Told m c w true (addedIn m c i) × (v ≡ numberOf (boundBy (rowsIn m c) (kindsIn m c) (pairIn m c) (memIn m c) i))
+PushedIs m c i w (pushed.Bound v) = Told m c w true (addedIn m c i) × (v ≡ varNumber (boundBy (rowsIn m c) (kindsIn m c) (pairIn m c) (memIn m c) i))
 PushedIs m c i w pushed.Failed = Told m c w false (addedIn m c i)
 
 -- the equation i on top of those solved
@@ -135,14 +135,14 @@ abbrev pub PlainTo : List ℕ → Counts → ℕ → Type 0
 PlainTo m c n = (i : ℕ) → i < n → PlainPair (rowsIn m c) (pairIn m c i)
 
 -- the numbers in the first k places are below n
-abbrev pub Below : List ℕ → ℕ → ℕ → Type 0
-Below s k n = (i : ℕ) → i < k → cell s i < n
+abbrev pub NumbersBelow : List ℕ → ℕ → ℕ → Type 0
+NumbersBelow s k n = (i : ℕ) → i < k → cell s i < n
 
 -- sets were tested, from the one that stood, with nothing solved before it
 pub record TriedBy (m : List ℕ) (c : Counts) (s t : List ℕ) (k n b : ℕ) (w u v : List ℕ) (r : Tried) : Type 0 where
   pub size : length u ≡ length s
   pub room : length v ≡ length t
-  pub by : (m₀ : List ℕ) → Whole m₀ c → PlainTo m₀ c n → k ≤ length s → k ≤ length t → Below s k n → Stacked m₀ c s t 0 m → Kept m₀ c w × (outcomeOf r (listIn u k) ≡ triesIn (okIn m₀ c) n b (listIn s k))
+  pub by : (m₀ : List ℕ) → Whole m₀ c → PlainTo m₀ c n → k ≤ length s → k ≤ length t → NumbersBelow s k n → Stacked m₀ c s t 0 m → Kept m₀ c w × (outcomeOf r (listIn u k) ≡ triesIn (okIn m₀ c) n b (listIn s k))
 
 -- from the first one
 pub record FirstTriedBy (m : List ℕ) (c : Counts) (s t : List ℕ) (k n b : ℕ) (w u v : List ℕ) (r : Tried) : Type 0 where

@@ -13,7 +13,7 @@ ghost use Rattle.unify.specs.Promise.{rowsIn};
 ghost use Rattle.conflict_theory.specs.Plains.{isPlain, arePlain};
 ghost use Rattle.conflict_set.specs.In.{pairIn, nodeIn, plainHead, gotPlain, plainTo, listIn, isFailed, went, workedIn, reopened, AddedBy, AllAddedBy, SolvedBy, FellBy, ScannedBy};
 ghost use Rattle.conflict_set.specs.declared.Lines.the-variants.{Places};
-ghost use Rattle.conflict_set.specs.Searching.{leadIn, endIn, boundIn, openedIn, PushedBy, PushedFrom, PoppedBy, FollowedBy, AdvancedBy, TriedBy, FirstTriedBy, SearchedBy};
+ghost use Rattle.conflict_set.specs.Searching.{leadIn, openEndIn, boundEnd, openedIn, PushedBy, PushedFrom, PoppedBy, FollowedBy, AdvancedBy, TriedBy, FirstTriedBy, SearchedBy};
 ghost use Rattle.conflict_set.specs.Text.{lineText, lineIn, setText, told, toldOf, WrittenBy, ConflictPut, BelowPut, SearchedPut, ShortestPut, SoughtPut, ConflictBy};
 use output::Ending;
 use record::Record;
@@ -340,7 +340,7 @@ fn lead_from(m: &[u16], c: Counts, y: u16) -> Lead
 
 // The open variable to which the row x leads through arrays and bindings, or that there is none. As many steps as unification has suffice.
 fn open_end(m: &[u16], c: Counts, x: TypeId) -> u16
-    ensures { λ r. ⌜ r ≡ endIn (now (m .entry)) c (x .0) ⌝ }
+    ensures { λ r. ⌜ r ≡ openEndIn (now (m .entry)) c (x .0) ⌝ }
 {
     let t = c.types as u64;
     let v = c.vars as u64;
@@ -365,7 +365,7 @@ fn open_end(m: &[u16], c: Counts, x: TypeId) -> u16
 
 // Of two variables that were open before an equation, the ends of its sides: the one that it bound, if it bound one.
 fn bound_of(m: &[u16], c: Counts, a: u16, b: u16) -> u16
-    ensures { λ r. ⌜ r ≡ boundIn (now (m .entry)) c a b ⌝ }
+    ensures { λ r. ⌜ r ≡ boundEnd (now (m .entry)) c a b ⌝ }
 {
     match type_table::bound_to(m, c, VarId(a)) {
         Bound::To(x) => a,
