@@ -1,6 +1,6 @@
 -- What the promises of the search rest on, over plain variables.
 use mathlib.Core.Path.{_≡_, refl, sym, ap, _∙_}
-use mathlib.Core.Logic.{_≢_}
+use mathlib.Core.Logic.{_≢_, _⊎_, inl, inr}
 use mathlib.Core.List.{List, [], _∷_, _++_, append-assoc, append-nil}
 use mathlib.Core.Option.{Option, none, some}
 use mathlib.Core.Bool.{Bool, true, false, cond}
@@ -10,29 +10,35 @@ use native.Mathlib.Decide.{decLt, ℕ-discrete}
 use lib.ListN.{length, set, length-set, List·getD-eq-default}
 use lib.Seq.{getD-set-same, getD-set-other}
 use lib.Dec.{eqb, ltb}
-use borrow.Author.Tests.{lt-ltb, le-ltb, lt-leb, ne-eqb}
-use Rattle.theory.specs.Rules.{Shape, Mem, Res, row, bound}
+use borrow.Author.Tests.{lt-ltb, le-ltb, lt-leb, eq-eqb, ne-eqb}
+use Rattle.theory.specs.Rules.{Base, Shape, base, var, arr, div, regular, integer, floating, kind, isRegular, success, Mem, Pair, Res, row, bound}
 use Rattle.theory.specs.Program.{fuel}
 use Rattle.theory.specs.Solve.{solves}
-use Rattle.theory.specs.Basics.{All, clash, and-both}
+use Rattle.theory.specs.Basics.{All, clash, and-both, eqb-true}
+use Rattle.theory.specs.Ways.{Plain, plain-base, plain-var, plain-array}
 use Rattle.type_table.specs.declared.Counts.{Counts}
 use Rattle.type_table.specs.declared.VarId.{VarId}
+use Rattle.type_table.specs.declared.Kind.{Kind as Kind·C}
+use Rattle.type_table.specs.declared.Kind.the-variants as kinds
 use Rattle.type_table.specs.declared.Bound.{Bound}
 use Rattle.type_table.specs.declared.Bound.the-variants as binding
-use Rattle.type_table.specs.Memory.{pick, cell, most-vars, headAt, numberAt, outputAt, firstAt, countAt, inputsFrom, shapeOf, bindingAt, markAt, bindsOf, marksOf, memOf, varCell}
+use Rattle.type_table.specs.Memory.{pick, cell, most-vars, headAt, numberAt, outputAt, firstAt, countAt, inputsFrom, shapeOf, bindingAt, markAt, bindsOf, marksOf, memOf, varCell, kindOf, kindAt}
 use Rattle.type_table.specs.View.{boundCode}
 use Rattle.type_table.specs.View as view
-use Rattle.type_table.specs.Tables.{length-binds, bound-at, tab-set, tab-ext}
+use Rattle.type_table.specs.Tables.{length-binds, bound-at, kind-at, tab-set, tab-ext}
 use Rattle.type_table.specs.Frames.{cell-other}
 use Rattle.type_table.specs.Heads.{head-low, shape-cases, row-by}
 use Rattle.unify.specs.Promise.{rowsIn, kindsIn, memIn}
 use Rattle.unify.specs.Steps.{steps, fuel-is}
+use Rattle.unify.specs.Leaf.{kindK}
 use Rattle.conflict_theory.specs.Test.{isSuccess, blank, unified, ok}
 use Rattle.conflict_theory.specs.Worked.{PlainPair, from, from-below}
 use Rattle.conflict_theory.specs.Subsets.{next, next-below}
 use Rattle.conflict_theory.specs.Search.{found, tested, onwardTo}
 use Rattle.conflict_theory.specs.Code.{added, unified-last, ok-stays, onNext, triesIn, searchIn}
-use Rattle.conflict_theory.specs.OneBound.{endVar, endShape, openEnd, opened, isSome, boundOne, set-open, boundBy, unified-plain, added-back}
+use Rattle.conflict_theory.specs.OneBound.{endVar, endShape, openEnd, opened, isSome, boundOne, set-open, PlainBinds, boundBy, unified-plain, added-back}
+use Rattle.conflict_theory.specs.Free.{free-vars, free-expected, free-got, kindsMeet, canMeet}
+use Rattle.conflict_theory.specs.Marks.{Unmarked}
 use Rattle.conflict_theory.specs.Plains.{arePlain, sides-plain}
 use Rattle.conflict_set.specs.declared.Lead.{Lead}
 use Rattle.conflict_set.specs.declared.Lead.the-variants as lead
@@ -43,7 +49,7 @@ use Rattle.conflict_set.specs.declared.Tried.the-variants as tried
 use Rattle.conflict_set.specs.declared.Searched.{Searched}
 use Rattle.conflict_set.specs.In.{Whole, Kept, pairIn, cellsFrom, listIn, allFrom, plainTo, addedIn, unifiedIn, reopened, Told, AddedBy}
 use Rattle.conflict_set.specs.Laws.{kept-self, kept-on, whole-on, rows-on, kinds-on, pairs-on, cells-last, list-last, reopened-kept, reopened-mem, kinds-count}
-use Rattle.conflict_set.specs.Searching.{leadVar, leadIn, varNumber, openEndIn, ifBound, boundEnd, openedIn, okIn, PushedIs, PushedBy, Stacked, PlainPlaces, PushedTo, PushedFrom, PoppedBy, FollowedBy, AdvancedBy, outcomeOf, PlainTo, NumbersBelow, TriedBy, FirstTriedBy, SearchedBy}
+use Rattle.conflict_set.specs.Searching.{leadVar, leadIn, varNumber, openEndIn, ifBound, boundEnd, openedIn, okIn, PushedIs, PushedBy, Stacked, PlainPlaces, PushedFrom, PoppedBy, freeLeads, freeIn, LastTo, LastTested, SetTo, SetTested, FollowedBy, AdvancedBy, outcomeOf, PlainTo, NumbersBelow, TriedBy, FirstTriedBy, SearchedBy}
 
 -- ── ends ──
 
@@ -187,6 +193,122 @@ module _ (m : List ℕ) (c : Counts) (i : ℕ) (x y a b : ℕ) (p : x ≡ (pairI
   pub push-failed : AddedBy m c i w false → PushedBy m c i w pushed.Failed
   push-failed t = record { by = λ h. t .by h }
 
+-- ── opened again ──
+
+module _ (m : List ℕ) (c : Counts) (v : ℕ) where
+  opened-binds : c .vars * 5 ≤ length m → bindsOf (set m (v * 5 + 2) 0) (c .vars) ≡ set (bindsOf m (c .vars)) v none
+  unfolding bindsOf bindingAt
+  opened-binds room =
+      let n = c .vars in
+      let w = set m (v * 5 + 2) 0 in
+      tab-set (λ x. pick (eqb (varCell m n x 2) 1) (some (varCell m n x 3)) none) (λ x. pick (eqb (varCell w n x 2) 1) (some (varCell w n x 3)) none) n v none
+      (λ x h q. rw (getD-set-other m (v * 5 + 2) (x * 5 + 2) 0 0 (λ r. q (omega arith)), cell-other m v 2 0 (omega arith) n 3 (omega arith) (λ r. omega arith) x h) refl)
+      (λ h. rw (lt-leb n v h, getD-set-same m (v * 5 + 2) 0 0 (omega arith)) refl)
+
+  opened-marks : marksOf (set m (v * 5 + 2) 0) (c .vars) ≡ marksOf m (c .vars)
+  unfolding marksOf markAt
+  opened-marks = let n = c .vars in tab-ext (λ x. eqb (varCell m n x 4) 1) (λ x. eqb (varCell (set m (v * 5 + 2) 0) n x 4) 1) n (λ x h. rw (cell-other m v 2 0 (omega arith) n 4 (omega arith) (λ r. omega arith) x h) refl)
+
+  pub opened-memory : Whole m c → memIn (openedIn m (c .vars) v) c ≡ opened (some v) (memIn m c)
+  unfolding openedIn memOf
+  opened-memory h = by (decLt v (c .vars))
+    where
+      by : Dec (v < c .vars) → memOf (pick (ltb v (c .vars)) (set m (v * 5 + 2) 0) m) (c .vars) ≡ opened (some v) (memOf m (c .vars))
+      by (yes l) = rw (lt-ltb v (c .vars) l, opened-binds (omega (arith, h .size, h .vars)), opened-marks) refl
+      by (no l) = rw (le-ltb v (c .vars) (omega arith), set-open (bindsOf m (c .vars)) v (past-open (bindsOf m (c .vars)) v (omega (arith, length-binds m (c .vars))))) refl
+
+  pub opened-kept : Kept m c (openedIn m (c .vars) v)
+  unfolding openedIn
+  opened-kept = by (decLt v (c .vars))
+    where
+      by : Dec (v < c .vars) → Kept m c (pick (ltb v (c .vars)) (set m (v * 5 + 2) 0) m)
+      by (yes l) = rw (lt-ltb v (c .vars) l) (record { size = length-set m (v * 5 + 2) 0; same = λ i o. getD-set-other m (v * 5 + 2) i 0 0 (o v 2 l (omega arith) (omega arith)) })
+      by (no l) = rw (le-ltb v (c .vars) (omega arith)) (kept-self m c)
+
+  pub opened-yes : (n : ℕ) (w : List ℕ) → v < n → w ≡ set m (v * 5 + 2) 0 → w ≡ openedIn m n v
+  unfolding openedIn
+  opened-yes n w l e = rw (lt-ltb v n l) e
+
+  pub opened-no : (n : ℕ) → n ≤ v → m ≡ openedIn m n v
+  unfolding openedIn
+  opened-no n l = rw (le-ltb v n l) refl
+
+-- ── free rows ──
+
+shape-var : (h a o : ℕ) (i : List ℕ) (v : ℕ) → h < 15 → shapeOf h a o i ≡ var v → h ≡ 12
+shape-var h a o i v l = shape-cases h a o i l (λ s. s ≡ var v → h ≡ 12) (λ e p. clash (cc)) (λ e p. clash (cc)) (λ e p. clash (cc)) (λ e p. clash (cc)) (λ e p. clash (cc)) (λ e p. clash (cc)) (λ e p. clash (cc)) (λ e p. clash (cc)) (λ e p. clash (cc)) (λ e p. clash (cc)) (λ e p. clash (cc)) (λ e p. clash (cc)) (λ e p. e) (λ e p. clash (cc)) (λ e p. clash (cc))
+
+shape-array : (h a o : ℕ) (i : List ℕ) (z : ℕ) → h < 15 → shapeOf h a o i ≡ arr z → h ≡ 8
+shape-array h a o i z l = shape-cases h a o i l (λ s. s ≡ arr z → h ≡ 8) (λ e p. clash (cc)) (λ e p. clash (cc)) (λ e p. clash (cc)) (λ e p. clash (cc)) (λ e p. clash (cc)) (λ e p. clash (cc)) (λ e p. clash (cc)) (λ e p. clash (cc)) (λ e p. e) (λ e p. clash (cc)) (λ e p. clash (cc)) (λ e p. clash (cc)) (λ e p. clash (cc)) (λ e p. clash (cc)) (λ e p. clash (cc))
+
+module _ (m : List ℕ) (c : Counts) (y : ℕ) where
+  -- the row's head and number
+  abbrev its-head : ℕ
+  its-head = headAt m (c .types) y
+
+  -- its number
+  abbrev its-number : ℕ
+  its-number = numberAt m (c .types) y
+
+  row-is : row (rowsIn m c) y ≡ shapeOf its-head its-number (outputAt m (c .types) y) (inputsFrom m (firstAt m (c .types) y) (countAt m (c .types) y))
+  row-is = row-by m (c .types) y
+
+  -- a row that leads to an open variable is that variable's
+  open-is : (v : ℕ) → leadIn m c y ≡ lead.Open v → (row (rowsIn m c) y ≡ var v) × (bound (memIn m c .binds) v ≡ none)
+  unfolding leadIn shapeOf
+  open-is v e = by (eqb its-head 8) refl (eqb its-head 12) refl e
+    where
+      variable : (o : Option ℕ) → bindingAt m (c .vars) its-number ≡ o → its-head ≡ 12 → leadVar its-number o ≡ lead.Open v → (row (rowsIn m c) y ≡ var v) × (bound (memIn m c .binds) v ≡ none)
+      variable (some r) b h d = clash (cc)
+      variable none b h d = let q : its-number ≡ v = cc in (row-is ∙ rw (h, q) refl, bound-in m c v ∙ rw q at b)
+
+      by : (p : Bool) → eqb its-head 8 ≡ p → (q : Bool) → eqb its-head 12 ≡ q → pick p (lead.On its-number) (pick q (leadVar its-number (bindingAt m (c .vars) its-number)) lead.Nowhere) ≡ lead.Open v → (row (rowsIn m c) y ≡ var v) × (bound (memIn m c .binds) v ≡ none)
+      by true i q j d = clash (cc)
+      by false i true j d = variable (bindingAt m (c .vars) its-number) refl (eqb-true its-head 12 j) d
+      by false i false j d = clash (cc)
+
+  -- a row that leads nowhere is neither a variable's nor an array
+  nowhere-is : leadIn m c y ≡ lead.Nowhere → (its-head ≢ 8) × (its-head ≢ 12)
+  unfolding leadIn
+  nowhere-is e = (λ h. eight h, λ h. twelve h (bindingAt m (c .vars) its-number) refl)
+    where
+      eight : its-head ≡ 8 → ⊥
+      eight h = let d = rw h at e in clash (cc)
+
+      twelve : its-head ≡ 12 → (o : Option ℕ) → bindingAt m (c .vars) its-number ≡ o → ⊥
+      twelve h none b = let d = rw (h, b) at e in clash (cc)
+      twelve h (some r) b = let d = rw (h, b) at e in clash (cc)
+
+  -- such a plain row is a base type
+  base-is : leadIn m c y ≡ lead.Nowhere → Plain (rowsIn m c) y → (b : Base) × (row (rowsIn m c) y ≡ base b)
+  base-is e (plain-base b p) = (b, p)
+  base-is e (plain-var v p) = absurd (nowhere-is e .1 (shape-var its-head its-number (outputAt m (c .types) y) (inputsFrom m (firstAt m (c .types) y) (countAt m (c .types) y)) v (head-low m (c .types) y) (sym row-is ∙ p)))
+  base-is e (plain-array z p k) = absurd (nowhere-is e .0 (shape-array its-head its-number (outputAt m (c .types) y) (inputsFrom m (firstAt m (c .types) y) (countAt m (c .types) y)) z (head-low m (c .types) y) (sym row-is ∙ p)))
+
+-- the equation of free rows is met
+free-met : (m : List ℕ) (c : Counts) (i : ℕ) → Unmarked (memIn m c) → PlainPair (rowsIn m c) (pairIn m c i) → freeIn m c ((pairIn m c i) .0) ((pairIn m c i) .1) ≡ true → (addedIn m c i) .0 ≡ success
+unfolding freeIn
+free-met m c i u p f = by (leadIn m c x) refl (leadIn m c y) refl f
+  where
+    x : ℕ
+    x = (pairIn m c i) .0
+
+    y : ℕ
+    y = (pairIn m c i) .1
+
+    got : leadIn m c y ≡ lead.Nowhere → Plain (rowsIn m c) y ⊎ (row (rowsIn m c) y ≡ div) → ((b : Base) × (row (rowsIn m c) y ≡ base b)) ⊎ (row (rowsIn m c) y ≡ div)
+    got e (inl k) = inl (base-is m c y e k)
+    got e (inr k) = inr k
+
+    by : (l : Lead) → leadIn m c x ≡ l → (k : Lead) → leadIn m c y ≡ k → freeLeads (kindsIn m c) l k ≡ true → (addedIn m c i) .0 ≡ success
+    by (lead.On z) e k d t = clash (cc)
+    by (lead.Open a) e (lead.On z) d t = clash (cc)
+    by (lead.Open a) e (lead.Open b) d t = let q = open-is m c x a e in let r = open-is m c y b d in free-vars (rowsIn m c) (kindsIn m c) (memIn m c) u x y a b (q .0) (r .0) (q .1) (r .1) t
+    by (lead.Open a) e lead.Nowhere d t = let q = open-is m c x a e in free-expected (rowsIn m c) (kindsIn m c) (memIn m c) u x y a (q .0) (q .1) t (got d (p .1))
+    by lead.Nowhere e (lead.On z) d t = clash (cc)
+    by lead.Nowhere e (lead.Open b) d t = let r = open-is m c y b d in let q = base-is m c x e (p .0) in free-got (rowsIn m c) (kindsIn m c) (memIn m c) u x y b (q .0) (q .1) (r .0) (r .1) t
+    by lead.Nowhere e lead.Nowhere d t = clash (cc)
+
 -- ── a stack of equations ──
 
 module _ (m₀ : List ℕ) (c : Counts) (h : Whole m₀ c) where
@@ -219,6 +341,10 @@ module _ (m₀ : List ℕ) (c : Counts) (h : Whole m₀ c) where
     ok-next : (r : Bool) → Told m c w r (addedIn m c q) → okIn m₀ c (listIn s (suc j)) ≡ r
     unfolding ok
     ok-next r k = ap (λ (u : Res). isSuccess (u .0)) next-is ∙ sym (told-is r k .0)
+
+    ok-top : isSuccess (onTop .0) ≡ true → okIn m₀ c (listIn s (suc j)) ≡ true
+    unfolding ok
+    ok-top k = ap (λ (u : Res). isSuccess (u .0)) next-is ∙ k
 
     kept-next : (r : Bool) → Told m c w r (addedIn m c q) → Kept m₀ c w
     kept-next r k = kept-on m₀ c m w (x .kept) (k .kept)
@@ -264,6 +390,37 @@ module _ (m₀ : List ℕ) (c : Counts) (h : Whole m₀ c) where
           mine i (yes z) b = rw (z, f, getD-set-same t j v 0 l) (back-next (k .0) v (k .1))
           mine i (no z) b = rw (f, getD-set-other t j i v 0 z) (x .back i (omega arith))
 
+      -- the equation is tested and taken back
+      pub tested-back : (v : ℕ) (w′ : List ℕ) → w′ ≡ openedIn w (c .vars) v → PushedIs m c q w (pushed.Bound v) → LastTo true m₀ c s t j w′
+      tested-back v w′ f k = (
+        record {
+          kept = kept-on m₀ c w w′ (kept-next true (k .0)) (rw f (opened-kept w c v));
+          memory = rw f (opened-memory w c v (whole-on m₀ c w (kept-next true (k .0)) h)) ∙ ap (opened (some v)) (told-is true (k .0) .1 ∙ ap (λ (r : Res). r .1) (sym next-is)) ∙ back-next (k .0) v (k .1);
+          solved = x .solved;
+          back = x .back;
+        },
+        ok-next true (k .0),
+      )
+
+      -- it is met for certain
+      pub tested-free : freeIn m c ((pairIn m c q) .0) ((pairIn m c q) .1) ≡ true → LastTo true m₀ c s t j m
+      tested-free f = (x, ok-free)
+        where
+          y : PlainBinds (rowsIn m₀ c) (kindsIn m₀ c) ((unifiedIn m₀ c (listIn s j)) .1 .binds) × Unmarked ((unifiedIn m₀ c (listIn s j)) .1)
+          y = unified-plain (rowsIn m₀ c) (kindsIn m₀ c) (pairIn m₀ c) Placed (λ i p. p) (listIn s j) placed (x .solved j (omega arith))
+
+          pairs : pairIn m c q ≡ pairIn m₀ c q
+          pairs = ap (λ (g : ℕ → Pair). g q) (pairs-on m₀ c m (x .kept) h)
+
+          met : (addedIn m c q) .0 ≡ success
+          met = free-met m c q (rw (x .memory) (y .1)) (rw (rows-on m₀ c m (x .kept) h, pairs, e) (plain j (omega arith))) f
+
+          ok-free : okIn m₀ c (listIn s (suc j)) ≡ true
+          ok-free = ok-yes-of (same-unified m (x .kept) q ∙ ap (λ u. added (rowsIn m₀ c) (kindsIn m₀ c) (pairIn m₀ c) u q) (x .memory)) met
+            where
+              ok-yes-of : addedIn m c q ≡ onTop → (addedIn m c q) .0 ≡ success → okIn m₀ c (listIn s (suc j)) ≡ true
+              ok-yes-of z k = ok-top (ap (λ (r : Res). isSuccess (r .0)) (sym z) ∙ ap isSuccess k)
+
     -- one more has no solution
     pub stacked-failed : PushedIs m c q w pushed.Failed → Kept m₀ c w × (okIn m₀ c (listIn s (suc j)) ≡ false)
     stacked-failed k = (kept-next false k, ok-next false k)
@@ -303,45 +460,30 @@ module _ (me : List ℕ) (c : Counts) (s t₀ : List ℕ) (j k : ℕ) where
   pub pushes-end : (m t : List ℕ) (i : ℕ) → length t ≡ length t₀ → (j ≤ k → i ≤ k) → k ≤ i → Pushes m t i → PushedFrom me c s t₀ j k m t true
   pushes-end m t i size most l g = record { size = size; by = λ m₀ h p d a x. let z : i ≡ k = let n = most a in omega arith in rw z at (g m₀ h p d a x) }
 
--- ── opened again, and popped ──
+-- ── tested ──
 
-module _ (m : List ℕ) (c : Counts) (v : ℕ) where
-  opened-binds : c .vars * 5 ≤ length m → bindsOf (set m (v * 5 + 2) 0) (c .vars) ≡ set (bindsOf m (c .vars)) v none
-  unfolding bindsOf bindingAt
-  opened-binds room =
-      let n = c .vars in
-      let w = set m (v * 5 + 2) 0 in
-      tab-set (λ x. pick (eqb (varCell m n x 2) 1) (some (varCell m n x 3)) none) (λ x. pick (eqb (varCell w n x 2) 1) (some (varCell w n x 3)) none) n v none
-      (λ x h q. rw (getD-set-other m (v * 5 + 2) (x * 5 + 2) 0 0 (λ r. q (omega arith)), cell-other m v 2 0 (omega arith) n 3 (omega arith) (λ r. omega arith) x h) refl)
-      (λ h. rw (lt-leb n v h, getD-set-same m (v * 5 + 2) 0 0 (omega arith)) refl)
+module _ (m : List ℕ) (c : Counts) (i : ℕ) where
+  pub last-free : (x y : ℕ) → x ≡ (pairIn m c i) .0 → y ≡ (pairIn m c i) .1 → true ≡ freeIn m c x y → LastTested m c i m true
+  last-free x y p q f = record { by = λ m₀ s t j h d e k. tested-free m₀ c h s t j m k i e m d (rw (← p, ← q) (sym f)) }
 
-  opened-marks : marksOf (set m (v * 5 + 2) 0) (c .vars) ≡ marksOf m (c .vars)
-  unfolding marksOf markAt
-  opened-marks = let n = c .vars in tab-ext (λ x. eqb (varCell m n x 4) 1) (λ x. eqb (varCell (set m (v * 5 + 2) 0) n x 4) 1) n (λ x h. rw (cell-other m v 2 0 (omega arith) n 4 (omega arith) (λ r. omega arith) x h) refl)
+  pub last-bound : (v : ℕ) (w w′ : List ℕ) → PushedBy m c i w (pushed.Bound v) → w′ ≡ openedIn w (c .vars) v → LastTested m c i w′ true
+  last-bound v w w′ b f = record { by = λ m₀ s t j h d e k. tested-back m₀ c h s t j m k i e w d v w′ f (b .by (whole-on m₀ c m (k .kept) h)) }
 
-  pub opened-memory : Whole m c → memIn (openedIn m (c .vars) v) c ≡ opened (some v) (memIn m c)
-  unfolding openedIn memOf
-  opened-memory h = by (decLt v (c .vars))
+  pub last-failed : (w : List ℕ) → PushedBy m c i w pushed.Failed → LastTested m c i w false
+  last-failed w b = record { by = λ m₀ s t j h d e k. stacked-failed m₀ c h s t j m k i e w (b .by (whole-on m₀ c m (k .kept) h)) }
+
+module _ (m : List ℕ) (c : Counts) (s t : List ℕ) (j k : ℕ) (pos : 0 < k) (w u : List ℕ) where
+  pub set-last : (q : ℕ) (w′ : List ℕ) (r : Bool) → PushedFrom m c s t j (k - 1) w u true → q ≡ cell s (k - 1) → LastTested w c q w′ r → SetTested m c s t j k w′ u r
+  set-last q w′ r p e l = record { size = p .size; by = λ m₀ h d a b x. by r m₀ (l .by m₀ s u (k - 1) h (λ i f. d i (omega arith)) e (p .by m₀ h (λ i f. d i (omega arith)) (omega arith) b x)) }
     where
-      by : Dec (v < c .vars) → memOf (pick (ltb v (c .vars)) (set m (v * 5 + 2) 0) m) (c .vars) ≡ opened (some v) (memOf m (c .vars))
-      by (yes l) = rw (lt-ltb v (c .vars) l, opened-binds (omega (arith, h .size, h .vars)), opened-marks) refl
-      by (no l) = rw (le-ltb v (c .vars) (omega arith), set-open (bindsOf m (c .vars)) v (past-open (bindsOf m (c .vars)) v (omega (arith, length-binds m (c .vars))))) refl
+      by : (r : Bool) (m₀ : List ℕ) → LastTo r m₀ c s u (k - 1) w′ → SetTo r m₀ c s u k w′
+      by true m₀ y = let z : suc (k - 1) ≡ k = omega arith in (y .0, rw z at (y .1))
+      by false m₀ y = let z : suc (k - 1) ≡ k = omega arith in (y .0, rw z at (y .1))
 
-  pub opened-kept : Kept m c (openedIn m (c .vars) v)
-  unfolding openedIn
-  opened-kept = by (decLt v (c .vars))
-    where
-      by : Dec (v < c .vars) → Kept m c (pick (ltb v (c .vars)) (set m (v * 5 + 2) 0) m)
-      by (yes l) = rw (lt-ltb v (c .vars) l) (record { size = length-set m (v * 5 + 2) 0; same = λ i o. getD-set-other m (v * 5 + 2) i 0 0 (o v 2 l (omega arith) (omega arith)) })
-      by (no l) = rw (le-ltb v (c .vars) (omega arith)) (kept-self m c)
+  pub set-failed : PushedFrom m c s t j (k - 1) w u false → SetTested m c s t j k w u false
+  set-failed p = record { size = p .size; by = λ m₀ h d a b x. let y = p .by m₀ h (λ i f. d i (omega arith)) (omega arith) b x in let z : k - 1 + 1 ≡ k = omega arith in (y .0, rw z at (ok-longer m₀ c s 1 (k - 1) (y .1))) }
 
-  pub opened-yes : (n : ℕ) (w : List ℕ) → v < n → w ≡ set m (v * 5 + 2) 0 → w ≡ openedIn m n v
-  unfolding openedIn
-  opened-yes n w l e = rw (lt-ltb v n l) e
-
-  pub opened-no : (n : ℕ) → n ≤ v → m ≡ openedIn m n v
-  unfolding openedIn
-  opened-no n l = rw (le-ltb v n l) refl
+-- ── popped ──
 
 module _ (me : List ℕ) (c : Counts) (t : List ℕ) (p k : ℕ) where
   -- those of the places from i on are taken back
@@ -495,10 +637,10 @@ module _ (me : List ℕ) (c : Counts) (s₀ t₀ : List ℕ) (k n b : ℕ) where
     unfolding triesIn
     tries-out z = record { size = size; room = room; by = λ m₀ h p l d a x. let y = g m₀ h p l d a x in (y .0 .kept, rw z at (y .2)) }
 
-    module _ (rest : ℕ) (w u : List ℕ) (z : left ≢ 0) (e : rest ≡ left - 1) (most : j ≤ k) (r : Bool) (q : PushedFrom m c s t j k w u r) where
+    module _ (rest : ℕ) (w u : List ℕ) (z : left ≢ 0) (e : rest ≡ left - 1) (most : j ≤ k - 1) (r : Bool) (q : SetTested m c s t j k w u r) where
       module _ (m₀ : List ℕ) (h : Whole m₀ c) (p : PlainTo m₀ c n) (l : k ≤ length s₀) (d : k ≤ length t₀) (a : NumbersBelow s₀ k n) (x : Stacked m₀ c s₀ t₀ 0 me) where
-        pushed-is : PushedTo r m₀ c s u k w
-        pushed-is = let y = g m₀ h p l d a x in q .by m₀ h (λ i f. p (cell s i) (y .1 i f)) (omega arith) most (y .0)
+        tested-is : SetTo r m₀ c s u k w
+        tested-is = let y = g m₀ h p l d a x in q .by m₀ h (λ i f. p (cell s i) (y .1 i f)) (omega arith) most (y .0)
 
         tries-is : (o : Bool) → okIn m₀ c (listIn s k) ≡ o → tested o (listIn s k) (onNext (triesIn (okIn m₀ c) n rest) rest (next n (listIn s k))) ≡ triesIn (okIn m₀ c) n b (listIn s₀ k)
         unfolding triesIn
@@ -507,29 +649,29 @@ module _ (me : List ℕ) (c : Counts) (s₀ t₀ : List ℕ) (k n b : ℕ) where
       sized : length u ≡ length t₀
       sized = q .size ∙ room
 
-    pub tries-found : (rest : ℕ) (w u : List ℕ) → left ≢ 0 → rest ≡ left - 1 → j ≤ k → PushedFrom m c s t j k w u false → TriedBy me c s₀ t₀ k n b w s u tried.Found
-    tries-found rest w u z e most q = record { size = size; room = sized rest w u z e most false q; by = λ m₀ h p l d a x. let y = pushed-is rest w u z e most false q m₀ h p l d a x in (y .0, tries-is rest w u z e most false q m₀ h p l d a x false (y .1)) }
+    pub tries-found : (rest : ℕ) (w u : List ℕ) → left ≢ 0 → rest ≡ left - 1 → j ≤ k - 1 → SetTested m c s t j k w u false → TriedBy me c s₀ t₀ k n b w s u tried.Found
+    tries-found rest w u z e most q = record { size = size; room = sized rest w u z e most false q; by = λ m₀ h p l d a x. let y = tested-is rest w u z e most false q m₀ h p l d a x in (y .0, tries-is rest w u z e most false q m₀ h p l d a x false (y .1)) }
 
-    module _ (rest : ℕ) (w u : List ℕ) (z : left ≢ 0) (e : rest ≡ left - 1) (most : j ≤ k) (q : PushedFrom m c s t j k w u true) (s′ : List ℕ) where
+    module _ (rest : ℕ) (w u : List ℕ) (z : left ≢ 0) (e : rest ≡ left - 1) (most : j ≤ k - 1) (q : SetTested m c s t j k w u true) (s′ : List ℕ) where
       pub tries-through : AdvancedBy s k n s′ advanced.Behind → TriedBy me c s₀ t₀ k n b w s′ u (tried.Through rest)
       tries-through v =
           record {
             size = v .size ∙ size;
             room = sized rest w u z e most true q;
             by = λ m₀ h p l d a x.
-                let y = pushed-is rest w u z e most true q m₀ h p l d a x in
+                let y = tested-is rest w u z e most true q m₀ h p l d a x in
                 let f = v .by (omega arith) in
-                (y .kept, rw (f .1) at (tries-is rest w u z e most true q m₀ h p l d a x true (y .solved k (omega arith))));
+                (y .0 .kept, rw (f .1) at (tries-is rest w u z e most true q m₀ h p l d a x true (y .1)));
           }
 
-      pub tries-on : (i : ℕ) (w′ : List ℕ) → AdvancedBy s k n s′ (advanced.From i) → PoppedBy w c u i k w′ → Tries w′ s′ u rest i
+      pub tries-on : (i : ℕ) (w′ : List ℕ) → AdvancedBy s k n s′ (advanced.From i) → PoppedBy w c u i (k - 1) w′ → Tries w′ s′ u rest i
       tries-on i w′ v o m₀ h p l d a x =
-          let y = pushed-is rest w u z e most true q m₀ h p l d a x in
+          let y = tested-is rest w u z e most true q m₀ h p l d a x in
           let f = v .by (omega arith) in
           let below = g m₀ h p l d a x .1 in (
-            restacked m₀ c s s′ u i w′ (f .0) (o .by m₀ s h (omega (arith, v .within)) y),
+            restacked m₀ c s s′ u i w′ (f .0) (o .by m₀ s h (omega (arith, v .within)) (y .0)),
             (λ j b. cells-each (λ x. x < n) s′ 0 k (next-below n (listIn s k) (listIn s′ k) (f .1) (cells-every (λ x. x < n) s 0 k (λ j b d. below j (omega arith)))) j (omega arith) (omega arith)),
-            rw (f .1) at (tries-is rest w u z e most true q m₀ h p l d a x true (y .solved k (omega arith))),
+            rw (f .1) at (tries-is rest w u z e most true q m₀ h p l d a x true (y .1)),
           )
 
 -- from the first set, with nothing bound
@@ -615,3 +757,36 @@ all-each f i (suc n) e k a b = by (ℕ-discrete k i) (all-each f (suc i) n (and-
 pub plain-each : (m : List ℕ) (c : Counts) (n : ℕ) → plainTo m c n ≡ true → PlainTo m c n
 unfolding plainTo
 plain-each m c n e i l = sides-plain (rowsIn m c) (pairIn m c i) (all-each (λ i. arePlain (rowsIn m c) (pairIn m c i)) 0 n e i (omega arith) (omega arith))
+
+-- ── kinds, and free rows as the code finds them ──
+
+kind-code : (k : ℕ) → kindK (view.kindCode k) ≡ kindOf k
+unfolding view.kindCode
+kind-code k = by (eqb k 1) (eqb k 2)
+  where
+    by : (p q : Bool) → kindK (pick p kinds.Integer (pick q kinds.Float kinds.Regular)) ≡ pick p integer (pick q floating regular)
+    by true q = refl
+    by false true = refl
+    by false false = refl
+
+kind-in : (m : List ℕ) (c : Counts) (v : VarId) → kindK (view.kindIn m c v) ≡ kind (kindsIn m c) (v .0)
+unfolding view.kindIn kindAt
+kind-in m c v = kind-code (varCell m (c .vars) (v .0) 0) ∙ sym (kind-at m (c .vars) (v .0))
+
+pub regular-law : (m : List ℕ) (c : Counts) (v : VarId) (k l : Kind·C) (r : Bool) → k ≡ view.kindIn m c v → k ≡ l → r ≡ isRegular (kindK l) → r ≡ isRegular (kind (kindsIn m c) (v .0))
+regular-law m c v k l r e d t = t ∙ ap (λ z. isRegular (kindK z)) (sym d ∙ e) ∙ ap isRegular (kind-in m c v)
+
+pub meet-same : (m : List ℕ) (c : Counts) (a b : ℕ) → a ≡ b → false ≡ canMeet (kindsIn m c) a b
+meet-same m c a b e = rw (eq-eqb a b e) refl
+
+pub meet-law : (m : List ℕ) (c : Counts) (v w : VarId) (k l : Kind·C) (r : Bool) → v .0 ≢ w .0 → k ≡ view.kindIn m c v → l ≡ view.kindIn m c w → r ≡ kindsMeet (kindK k) (kindK l) → r ≡ canMeet (kindsIn m c) (v .0) (w .0)
+meet-law m c v w k l r d e f t = rw (ne-eqb (v .0) (w .0) d) (t ∙ ap (λ z. kindsMeet (kindK z) (kindK l)) e ∙ ap (λ z. kindsMeet (kindK (view.kindIn m c v)) (kindK z)) f ∙ rw (kind-in m c v, kind-in m c w) refl)
+
+module _ (m : List ℕ) (c : Counts) (x y : ℕ) (l : Lead) (e : l ≡ leadIn m c x) where
+  pub free-on : (z : ℕ) → l ≡ lead.On z → false ≡ freeIn m c x y
+  unfolding freeIn
+  free-on z d = ap (λ l. freeLeads (kindsIn m c) l (leadIn m c y)) (sym d ∙ e)
+
+  pub free-law : (k : Lead) → k ≡ leadIn m c y → (p q : Lead) → l ≡ p → k ≡ q → (r : Bool) → r ≡ freeLeads (kindsIn m c) p q → r ≡ freeIn m c x y
+  unfolding freeIn
+  free-law k f p q d g r t = t ∙ ap (λ l. freeLeads (kindsIn m c) l q) (sym d ∙ e) ∙ ap (freeLeads (kindsIn m c) (leadIn m c x)) (sym g ∙ f)

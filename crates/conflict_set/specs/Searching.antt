@@ -6,6 +6,7 @@ use mathlib.Core.Bool.{Bool, true, false}
 use Prim.Native.Nat.{ℕ, suc, _+_, _-_, _*_, _≤_, _<_}
 use lib.ListN.{length, set}
 use lib.Dec.{eqb, ltb}
+use Rattle.theory.specs.Rules.{Kind, kind, isRegular}
 use Rattle.theory.specs.Program.{fuel}
 use Rattle.type_table.specs.declared.Counts.{Counts}
 use Rattle.type_table.specs.Memory.{pick, cell, headAt, numberAt, bindingAt}
@@ -16,6 +17,7 @@ use Rattle.conflict_theory.specs.Subsets.{next}
 use Rattle.conflict_theory.specs.Search.{Outcome, found, out, through}
 use Rattle.conflict_theory.specs.Code.{triesIn, searchIn}
 use Rattle.conflict_theory.specs.OneBound.{openEnd, opened, boundBy}
+use Rattle.conflict_theory.specs.Free.{canMeet}
 use Rattle.conflict_set.specs.declared.Lead.{Lead}
 use Rattle.conflict_set.specs.declared.Lead.the-variants as lead
 use Rattle.conflict_set.specs.declared.Pushed.{Pushed}
@@ -99,6 +101,41 @@ pub record PushedFrom (m : List ℕ) (c : Counts) (s t : List ℕ) (j k : ℕ) (
 -- those of the places from p to k are taken back
 pub record PoppedBy (m : List ℕ) (c : Counts) (t : List ℕ) (p k : ℕ) (w : List ℕ) : Type 0 where
   pub by : (m₀ s : List ℕ) → Whole m₀ c → p ≤ k → Stacked m₀ c s t k m → Stacked m₀ c s t p w
+
+-- ── the last equation of a subset ──
+
+-- by where two rows lead: two open variables that can be one, or an open Regular one and a type without parts
+abbrev pub freeLeads : List Kind → Lead → Lead → Bool
+freeLeads kinds (lead.On z) l = false
+freeLeads kinds (lead.Open a) (lead.On z) = false
+freeLeads kinds (lead.Open a) (lead.Open b) = canMeet kinds a b
+freeLeads kinds (lead.Open a) lead.Nowhere = isRegular (kind kinds a)
+freeLeads kinds lead.Nowhere (lead.On z) = false
+freeLeads kinds lead.Nowhere (lead.Open b) = isRegular (kind kinds b)
+freeLeads kinds lead.Nowhere lead.Nowhere = false
+
+-- the rows x and y are so free that their equation is met for certain
+unfoldable pub freeIn : List ℕ → Counts → ℕ → ℕ → Bool
+freeIn m c x y = freeLeads (kindsIn m c) (leadIn m c x) (leadIn m c y)
+
+-- with the equation in the place j there still is a solution, or not; those before it are solved as they were
+abbrev pub LastTo : Bool → List ℕ → Counts → List ℕ → List ℕ → ℕ → List ℕ → Type 0
+LastTo true m₀ c s t j w = Stacked m₀ c s t j w × (okIn m₀ c (listIn s (suc j)) ≡ true)
+LastTo false m₀ c s t j w = Kept m₀ c w × (okIn m₀ c (listIn s (suc j)) ≡ false)
+
+-- the equation i was tested on top of those solved
+pub record LastTested (m : List ℕ) (c : Counts) (i : ℕ) (w : List ℕ) (r : Bool) : Type 0 where
+  pub by : (m₀ s t : List ℕ) (j : ℕ) → Whole m₀ c → PlainPlaces m₀ c s (suc j) → i ≡ cell s j → Stacked m₀ c s t j m → LastTo r m₀ c s t j w
+
+-- the first k have a common solution, and all but the last are solved; or they have none
+abbrev pub SetTo : Bool → List ℕ → Counts → List ℕ → List ℕ → ℕ → List ℕ → Type 0
+SetTo true m₀ c s u k w = Stacked m₀ c s u (k - 1) w × (okIn m₀ c (listIn s k) ≡ true)
+SetTo false m₀ c s u k w = Kept m₀ c w × (okIn m₀ c (listIn s k) ≡ false)
+
+-- the first k of a set were tested, those before j being solved
+pub record SetTested (m : List ℕ) (c : Counts) (s t : List ℕ) (j k : ℕ) (w u : List ℕ) (r : Bool) : Type 0 where
+  pub size : length u ≡ length t
+  pub by : (m₀ : List ℕ) → Whole m₀ c → PlainPlaces m₀ c s k → k ≤ length t → j ≤ k - 1 → Stacked m₀ c s t j m → SetTo r m₀ c s u k w
 
 -- ── subset by subset ──
 

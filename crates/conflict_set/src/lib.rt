@@ -9,11 +9,14 @@ ghost use lib.Dec.{ltb, leb};
 ghost use Rattle.output.specs.Output.{Appends};
 ghost use Rattle.type_table.specs.Memory.{cell};
 ghost use Rattle.record.specs.Own.{log-at};
-ghost use Rattle.unify.specs.Promise.{rowsIn};
+ghost use Rattle.theory.specs.Rules.{isRegular, kind};
+ghost use Rattle.unify.specs.Promise.{rowsIn, kindsIn};
+ghost use Rattle.unify.specs.Leaf.{kindK};
+ghost use Rattle.conflict_theory.specs.Free.{kindsMeet, canMeet};
 ghost use Rattle.conflict_theory.specs.Plains.{isPlain, arePlain};
 ghost use Rattle.conflict_set.specs.In.{pairIn, nodeIn, plainHead, gotPlain, plainTo, listIn, isFailed, went, workedIn, reopened, AddedBy, AllAddedBy, SolvedBy, FellBy, ScannedBy};
 ghost use Rattle.conflict_set.specs.declared.Lines.the-variants.{Places};
-ghost use Rattle.conflict_set.specs.Searching.{leadIn, openEndIn, boundEnd, openedIn, PushedBy, PushedFrom, PoppedBy, FollowedBy, AdvancedBy, TriedBy, FirstTriedBy, SearchedBy};
+ghost use Rattle.conflict_set.specs.Searching.{leadIn, openEndIn, boundEnd, openedIn, PushedBy, PushedFrom, PoppedBy, freeIn, LastTested, SetTested, FollowedBy, AdvancedBy, TriedBy, FirstTriedBy, SearchedBy};
 ghost use Rattle.conflict_set.specs.Text.{lineText, lineIn, setText, told, toldOf, WrittenBy, ConflictPut, BelowPut, SearchedPut, ShortestPut, SoughtPut, ConflictBy};
 use output::Ending;
 use record::Record;
@@ -27,6 +30,7 @@ use type_table::HEAD_INFER_TY;
 use type_table::HEAD_LAMBDA;
 use type_table::HEAD_PARAM;
 use type_table::HEAD_REF;
+use type_table::Kind;
 use type_table::TypeId;
 use type_table::VarId;
 use unify::Answer;
@@ -438,6 +442,100 @@ fn pop(m: &mut [u16], c: Counts, bound: &[u16], p: u16, k: u16)
     }
 }
 
+// ── the search: the last equation of a subset ──
+
+// Whether a variable is Regular.
+fn is_regular(m: &[u16], c: Counts, v: u16) -> bool
+    ensures { λ r. ⌜ r ≡ isRegular (kind (kindsIn (now (m .entry)) c) v) ⌝ }
+{
+    match type_table::kind_of(m, c, VarId(v)) {
+        Kind::Regular => true,
+        Kind::Integer => false,
+        Kind::Float => false,
+    }
+}
+
+// Whether variables of two kinds can be one.
+fn kinds_meet(k: Kind, l: Kind) -> bool
+    ensures { λ r. ⌜ r ≡ kindsMeet (kindK k) (kindK l) ⌝ }
+{
+    match k {
+        Kind::Regular => true,
+        Kind::Integer => match l {
+            Kind::Regular => true,
+            Kind::Integer => true,
+            Kind::Float => false,
+        },
+        Kind::Float => match l {
+            Kind::Regular => true,
+            Kind::Integer => false,
+            Kind::Float => true,
+        },
+    }
+}
+
+// Whether two open variables are two, of kinds that can be one.
+fn can_meet(m: &[u16], c: Counts, a: u16, b: u16) -> bool
+    ensures { λ r. ⌜ r ≡ canMeet (kindsIn (now (m .entry)) c) a b ⌝ }
+{
+    if a == b {
+        return false;
+    }
+    kinds_meet(
+        type_table::kind_of(m, c, VarId(a)),
+        type_table::kind_of(m, c, VarId(b)),
+    )
+}
+
+// Whether two rows are so free that their equation is met for certain: two open variables, or one and a type without parts.
+fn is_free(m: &[u16], c: Counts, x: TypeId, y: TypeId) -> bool
+    ensures { λ r. ⌜ r ≡ freeIn (now (m .entry)) c (x .0) (y .0) ⌝ }
+{
+    match lead_from(m, c, x.0) {
+        Lead::On(z) => false,
+        Lead::Open(a) => match lead_from(m, c, y.0) {
+            Lead::On(z) => false,
+            Lead::Open(b) => can_meet(m, c, a, b),
+            Lead::Nowhere => is_regular(m, c, a),
+        },
+        Lead::Nowhere => match lead_from(m, c, y.0) {
+            Lead::On(z) => false,
+            Lead::Open(b) => is_regular(m, c, b),
+            Lead::Nowhere => false,
+        },
+    }
+}
+
+// Whether there still is a solution with the equation i, on top of those solved, which stay as they are.
+fn test_last(m: &mut [u16], c: Counts, i: u16) -> bool
+    ensures { λ r. ⌜ LastTested (now (m .entry)) c i (now (m .exit)) r ⌝ }
+{
+    let x = expected(m, c, i);
+    let y = got(m, c, i);
+    if is_free(m, c, x, y) {
+        return true;
+    }
+    match push(m, c, i) {
+        Pushed::Bound(v) => {
+            open_again(m, c, v);
+            true
+        }
+        Pushed::Failed => false,
+    }
+}
+
+// Whether the first k of a set have a common solution, those before j being solved: all but the last are solved then.
+fn test_set(m: &mut [u16], c: Counts, set: &[u16], bound: &mut [u16], j: u16, k: u16) -> bool
+    requires { ⌜ 0 < k ⌝ }
+    ensures { λ r. ⌜ SetTested (now (m .entry)) c (now (set .entry)) (now (bound .entry)) j k (now (m .exit)) (now (bound .exit)) r ⌝ }
+{
+    if push_from(m, c, set, bound, j, k - 1) {
+        let q = memory_cells::read(set, k as usize - 1);
+        return test_last(m, c, q);
+    }
+    false
+}
+
 // ── the search: subset by subset ──
 
 // The numbers from f on, in the places from p to k.
@@ -506,6 +604,7 @@ fn tries_from(
     n: u16,
     b: u64,
 ) -> Tried
+    requires { ⌜ 0 < k ⌝ }
     ensures { λ r. ⌜ TriedBy (now (m .entry)) c (now (set .entry)) (now (bound .entry)) k n b (now (m .exit)) (now (set .exit)) (now (bound .exit)) r ⌝ }
 {
     let mut left = b;
@@ -515,10 +614,10 @@ fn tries_from(
             return Tried::Out;
         }
         left -= 1;
-        if push_from(m, c, set, bound, j, k) {
+        if test_set(m, c, set, bound, j, k) {
             match advance(set, k, n) {
                 Advanced::From(p) => {
-                    pop(m, c, bound, p, k);
+                    pop(m, c, bound, p, k - 1);
                     j = p;
                 }
                 Advanced::Behind => {
@@ -541,6 +640,7 @@ fn tries(
     n: u16,
     b: u64,
 ) -> Tried
+    requires { ⌜ 0 < k ⌝ }
     ensures { λ r. ⌜ FirstTriedBy (now (m .entry)) c (now (set .entry)) (now (bound .entry)) k n b (now (m .exit)) (now (set .exit)) (now (bound .exit)) r ⌝ }
 {
     follow(set, 0, k, 0);

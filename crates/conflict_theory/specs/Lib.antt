@@ -12,5 +12,6 @@ pub mod Shortest
 pub mod CommonSolution
 pub mod Code
 pub mod OneBound
+pub mod Free
 pub mod Claims
 pub mod Example

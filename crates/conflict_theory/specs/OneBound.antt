@@ -187,7 +187,8 @@ module _ (rows : List Shape) (kinds : List Kind) where
       by (inl h) = inl (f v h)
       by (inr h) = inr (g v h)
 
-  pass-none : (m : Mem) (v : ℕ) (s : Shape) → Unmarked m → pass m v s ≡ m
+  -- without a mark nothing is passed
+  pub pass-none : (m : Mem) (v : ℕ) (s : Shape) → Unmarked m → pass m v s ≡ m
   unfolding pass
   pass-none m v s u = rw (u v) refl
 
@@ -195,7 +196,8 @@ module _ (rows : List Shape) (kinds : List Kind) where
   move-bases : (x y : ℕ) (b c : Base) → row rows x ≡ base b → row rows y ≡ base c → move rows kinds x y ≡ actOfBases x y b c
   move-bases x y b c e d = rw (e, d) refl
 
-  move-base-var : (x y v : ℕ) (b : Base) → row rows x ≡ base b → row rows y ≡ var v → move rows kinds x y ≡ at v x
+  -- a base type expected, a variable got
+  pub move-base-var : (x y v : ℕ) (b : Base) → row rows x ≡ base b → row rows y ≡ var v → move rows kinds x y ≡ at v x
   unfolding act atVar
   move-base-var x y v b e d = rw (e, d, choose-base-var b) refl
 
@@ -203,7 +205,8 @@ module _ (rows : List Shape) (kinds : List Kind) where
   unfolding act
   move-base-array x y z b e d = rw (e, d, choose-base-array b) refl
 
-  move-var-base : (x y v : ℕ) (b : Base) → row rows x ≡ var v → row rows y ≡ base b → move rows kinds x y ≡ at v y
+  -- a variable expected, a base type got
+  pub move-var-base : (x y v : ℕ) (b : Base) → row rows x ≡ var v → row rows y ≡ base b → move rows kinds x y ≡ at v y
   unfolding act atVar
   move-var-base x y v b e d = rw (e, d, choose-var-base b) refl
 
@@ -231,7 +234,8 @@ module _ (rows : List Shape) (kinds : List Kind) where
   unfolding choose act split
   move-arrays x y z w e d = rw (e, d) refl
 
-  move-diverges : (x y : ℕ) → row rows y ≡ div → move rows kinds x y ≡ go [] success
+  -- Diverges got
+  pub move-diverges : (x y : ℕ) → row rows y ≡ div → move rows kinds x y ≡ go [] success
   unfolding act
   move-diverges x y d = rw (d, choose-diverges (row rows x)) refl
 

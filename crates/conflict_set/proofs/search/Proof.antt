@@ -1,4 +1,4 @@
-use Prim.Native.Nat.{_-_}
+use Prim.Native.Nat.{_-_, _<_}
 use mathlib.Core.Path.{_≡_, refl, subst, _∙_}
 use lib.ListN.{length}
 use Rattle.conflict_set.specs.SearchLaws.{Searches, searches-start, searches-found, searches-out, searches-on, searches-end}
@@ -8,7 +8,7 @@ use Rattle.conflict_set.proofs.search.Statement.{statement}
 use Rattle.conflict_set.proofs.search.Tie as tie
 
 abbrev Inv-loop : tie.InvT-loop
-Inv-loop m₀ c set₀ bound₀ most n b k₀ left₀ m set bound k left = Searches m₀ c set₀ bound₀ most n b m k left × (length set ≡ length set₀) × (length bound ≡ length bound₀) × (length m ≡ length m₀)
+Inv-loop m₀ c set₀ bound₀ most n b k₀ left₀ m set bound k left = Searches m₀ c set₀ bound₀ most n b m k left × (length set ≡ length set₀) × (length bound ≡ length bound₀) × (length m ≡ length m₀) × (0 < k)
 
 abbrev μ-loop : tie.MeasureT-loop
 μ-loop m₀ c set₀ bound₀ most n b k₀ left₀ m set bound k left = most - k
@@ -18,8 +18,8 @@ search-spec =
     tie.close (tie.spec
     Inv-loop
     μ-loop
-    (λ c. (searches-start ((c .before .before .before .args .m .now)) ((c .before .before .before .args .c)) ((c .before .before .before .args .set .now)) ((c .before .before .before .args .bound .now)) ((c .before .before .before .args .most)) ((c .before .before .before .args .n)) ((c .before .before .before .args .b)), refl, refl, refl))
-    (λ c κs. search needs)
+    (λ c. (searches-start ((c .before .before .before .args .m .now)) ((c .before .before .before .args .c)) ((c .before .before .before .args .set .now)) ((c .before .before .before .args .bound .now)) ((c .before .before .before .args .most)) ((c .before .before .before .args .n)) ((c .before .before .before .args .b)), refl, refl, refl, search needs))
+    (λ c κs. let h : 0 < (c .before .before .before .before .loop .k) = (c .before .before .before .before .loop .inv .4) in search needs)
     (λ c. search needs)
     (λ c. ((c .before .before .before .before .before .before .before .before .tries .kept .0)) ∙ ((c .before .before .before .before .before .before .before .before .before .before .before .before .before .loop .inv .3)))
     (λ c. ((c .before .before .before .before .before .before .before .before .tries .ensures .size)) ∙ ((c .before .before .before .before .before .before .before .before .before .before .before .before .before .loop .inv .1)))
@@ -34,7 +34,7 @@ search-spec =
     (λ c. search needs)
     (λ c. search needs)
     (λ c. search needs)
-    (λ c. (searches-on ((c .before .before .before .before .before .before .before .before .before .before .before .before .before .before .before .before .before .before .args .m .now)) ((c .before .before .before .before .before .before .before .before .before .before .before .before .before .before .before .before .before .before .args .c)) ((c .before .before .before .before .before .before .before .before .before .before .before .before .before .before .before .before .before .before .args .set .now)) ((c .before .before .before .before .before .before .before .before .before .before .before .before .before .before .before .before .before .before .args .bound .now)) ((c .before .before .before .before .before .before .before .before .before .before .before .before .before .before .before .before .before .before .args .most)) ((c .before .before .before .before .before .before .before .before .before .before .before .before .before .before .before .before .before .before .args .n)) ((c .before .before .before .before .before .before .before .before .before .before .before .before .before .before .before .before .before .before .args .b)) _ _ _ _ _ _ _ _ ((c .before .before .before .before .before .before .before .before .before .before .before .before .before .before .loop .inv .1)) ((c .before .before .before .before .before .before .before .before .before .before .before .before .before .before .loop .inv .2)) ((c .before .before .before .before .before .before .before .before .before .before .before .before .before .loop-test .taken)) ((c .before .before .before .before .before .before .before .before .before .before .before .before .before .before .loop .inv .0)) _ (subst (FirstTriedBy _ _ _ _ _ _ _ _ _ _) ((c .before .d .given .1)) ((c .before .before .before .before .before .before .before .before .before .tries .ensures))), ((c .before .before .before .before .before .before .before .before .before .tries .ensures .size)) ∙ ((c .before .before .before .before .before .before .before .before .before .before .before .before .before .before .loop .inv .1)), ((c .before .before .before .before .before .before .before .before .before .tries .ensures .room)) ∙ ((c .before .before .before .before .before .before .before .before .before .before .before .before .before .before .loop .inv .2)), ((c .before .before .before .before .before .before .before .before .before .tries .kept .0)) ∙ ((c .before .before .before .before .before .before .before .before .before .before .before .before .before .before .loop .inv .3))))
+    (λ c. (searches-on ((c .before .before .before .before .before .before .before .before .before .before .before .before .before .before .before .before .before .before .args .m .now)) ((c .before .before .before .before .before .before .before .before .before .before .before .before .before .before .before .before .before .before .args .c)) ((c .before .before .before .before .before .before .before .before .before .before .before .before .before .before .before .before .before .before .args .set .now)) ((c .before .before .before .before .before .before .before .before .before .before .before .before .before .before .before .before .before .before .args .bound .now)) ((c .before .before .before .before .before .before .before .before .before .before .before .before .before .before .before .before .before .before .args .most)) ((c .before .before .before .before .before .before .before .before .before .before .before .before .before .before .before .before .before .before .args .n)) ((c .before .before .before .before .before .before .before .before .before .before .before .before .before .before .before .before .before .before .args .b)) _ _ _ _ _ _ _ _ ((c .before .before .before .before .before .before .before .before .before .before .before .before .before .before .loop .inv .1)) ((c .before .before .before .before .before .before .before .before .before .before .before .before .before .before .loop .inv .2)) ((c .before .before .before .before .before .before .before .before .before .before .before .before .before .loop-test .taken)) ((c .before .before .before .before .before .before .before .before .before .before .before .before .before .before .loop .inv .0)) _ (subst (FirstTriedBy _ _ _ _ _ _ _ _ _ _) ((c .before .d .given .1)) ((c .before .before .before .before .before .before .before .before .before .tries .ensures))), ((c .before .before .before .before .before .before .before .before .before .tries .ensures .size)) ∙ ((c .before .before .before .before .before .before .before .before .before .before .before .before .before .before .loop .inv .1)), ((c .before .before .before .before .before .before .before .before .before .tries .ensures .room)) ∙ ((c .before .before .before .before .before .before .before .before .before .before .before .before .before .before .loop .inv .2)), ((c .before .before .before .before .before .before .before .before .before .tries .kept .0)) ∙ ((c .before .before .before .before .before .before .before .before .before .before .before .before .before .before .loop .inv .3)), search needs))
     (λ c. ((c .before .loop .inv .3)))
     (λ c. ((c .before .loop .inv .1)))
     (λ c. ((c .before .loop .inv .2)))

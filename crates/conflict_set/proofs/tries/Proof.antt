@@ -1,3 +1,4 @@
+use Prim.Native.Nat.{_<_}
 use Rattle.conflict_set.specs.SearchLaws.{first-law}
 use borrow.Author.Needs.{needs}
 use Rattle.conflict_set.proofs.tries.Statement.{statement}
@@ -8,7 +9,7 @@ tries-spec =
     tie.close (tie.spec
     (λ c κs. search needs)
     (λ c κs. search needs)
-    (λ c κs. search needs)
+    (λ c κs. let h : 0 < (c .before .before .before .before .before .before .before .before .before .before .before .before .before .before .args .k) = (c .before .before .before .before .before .before .before .before .before .before .before .before .before .before .pre) in search needs)
     (λ c. search needs)
     (λ c. search needs)
     (λ c. search needs)
