@@ -30,8 +30,9 @@ static int fault(void) {
     return number;
 }
 
-static uint16_t spare[NUNTHILA_CELLS + NUNTHILA_MEMORY]; /* as long as any table */
-static nunthila_error spare_errors[NUNTHILA_ERRORS];
+/* Each thread has its own, since the tests of the wrapper call from several. */
+static __thread uint16_t spare[NUNTHILA_CELLS + NUNTHILA_MEMORY]; /* as long as any table */
+static __thread nunthila_error spare_errors[NUNTHILA_ERRORS];
 
 /* No table that is used below is short, and told is whole. */
 #define WHOLE (rows_len >= NUNTHILA_ROWS && memory_len >= NUNTHILA_MEMORY && told_len >= NUNTHILA_TOLD)
@@ -242,7 +243,7 @@ size_t nunthila_report(SLICES, uint8_t *out, size_t out_len, size_t *told, size_
 
 /* ---- nunthila_quarrel and nunthila_shortest ---- */
 
-static uint8_t spare_out[2 * NUNTHILA_OUT];
+static __thread uint8_t spare_out[2 * NUNTHILA_OUT];
 
 static size_t put_line(size_t to, int fields, unsigned q, unsigned node, unsigned x, unsigned y) {
     char *end = (char *)spare_out + to;
@@ -255,7 +256,7 @@ static size_t put_below(size_t to, unsigned below) {
 
 /* Writes the text with the fault to spare_out; its bytes. */
 static size_t rewritten(int f, const uint8_t *out, size_t n, uint64_t number) {
-    static char text[NUNTHILA_OUT + 1];
+    static __thread char text[NUNTHILA_OUT + 1];
     const char *at = text;
     size_t to = 0, line, last_line;
     unsigned below = 0;
