@@ -30,8 +30,8 @@ extern "C" {
 /* uint16_t: a log that holds all equations of any body. The log may have any length, 0 too; it holds as many as fit whole. */
 #define NUNTHILA_LOG 6144
 
-/* The output may have any length; this is what the program typereport lends. A report can be longer, a text of nunthila_quarrel cannot: it
-   has at most 2,048 lines of at most 29 bytes. */
+/* The output may have any length; this is what the program typereport lends. A report can be longer, a text of nunthila_quarrel or
+   nunthila_shortest cannot: it has at most 2,048 lines of at most 29 bytes, and of nunthila_shortest a last one of at most 11. */
 #define NUNTHILA_OUT 65536
 
 /* size_t: what is told of a call. In a shorter slice what fits is written; further elements of a longer one stay as they were. */
@@ -47,20 +47,22 @@ enum {
     NUNTHILA_LIMIT = 4,          /* a count over a limit; place: the line */
     NUNTHILA_REFERENCE = 5,      /* a number that breaks a reference rule; place: the line */
     NUNTHILA_LEVELS = 6,         /* too many levels; place: the line */
-    NUNTHILA_NO_ROOM = 9,        /* the output is too short for the text; of nunthila_report and nunthila_quarrel */
+    NUNTHILA_NO_ROOM = 9,        /* the output is too short for the text; not of nunthila_check */
     NUNTHILA_NO_RULE = 10,       /* a string, or a path that has no type; place: the node */
     NUNTHILA_UNTYPED_LOCAL = 11, /* a local that is not yet typed; place: the node */
-    NUNTHILA_INSIDE_ITSELF = 12, /* a variable that would stand inside its own binding; place: the node; not of nunthila_quarrel */
+    NUNTHILA_INSIDE_ITSELF = 12, /* a variable that would stand inside its own binding; place: the node; of nunthila_check and
+                                    nunthila_report alone */
     NUNTHILA_NEGATED = 13,       /* a negated number that would not be a signed integer; place: the node */
     NUNTHILA_NOTHING = 14        /* no equation failed, or one up to the first that did has a side that is not plain; of nunthila_quarrel
-                                    alone */
+                                    and nunthila_shortest alone */
 };
 
 /* ---- told ---- */
 
 /* The counts are 0 unless the answer of the check is 0. */
 enum {
-    NUNTHILA_TOLD_ANSWER = 0,     /* the answer of the check, also where nunthila_report returns 9; what nunthila_quarrel returns */
+    NUNTHILA_TOLD_ANSWER = 0,     /* the answer of the check, also where nunthila_report returns 9; what nunthila_quarrel and
+                                     nunthila_shortest return */
     NUNTHILA_TOLD_HAS_PLACE = 1,  /* 1 if the answer has a place: 3 to 6, 10 to 13 */
     NUNTHILA_TOLD_PLACE = 2,      /* the place, else 0 */
     NUNTHILA_TOLD_TYPES = 3,      /* type lines of the file */
@@ -73,7 +75,8 @@ enum {
     NUNTHILA_TOLD_VARS = 10,      /* variables */
     NUNTHILA_TOLD_ERRORS = 11,    /* type errors */
     NUNTHILA_TOLD_EQUATIONS = 12, /* equations raised, those without room in the log too */
-    NUNTHILA_TOLD_LENGTH = 13     /* bytes of the text; 0 where 9 is returned, of nunthila_check, and on any refusal of nunthila_quarrel */
+    NUNTHILA_TOLD_LENGTH = 13     /* bytes of the text; 0 where 9 is returned, of nunthila_check, and on any refusal of nunthila_quarrel
+                                     and nunthila_shortest */
 };
 
 /* ---- types by number ---- */
@@ -227,7 +230,7 @@ enum {
     NUNTHILA_EQUATION_OUTCOME = 2 /* 0 success, 1 mismatch */
 };
 
-/* ---- lines of nunthila_quarrel ---- */
+/* ---- lines of nunthila_quarrel and nunthila_shortest ---- */
 
 /* Any number other than 0 is taken as NUNTHILA_PLACES. */
 enum {
@@ -288,6 +291,30 @@ size_t nunthila_quarrel(const uint8_t *s, size_t s_len,
                         uint8_t *out, size_t out_len,
                         size_t *told, size_t told_len,
                         size_t places);
+
+/* Types the body s, and searches for a conflict that is shorter than the minimal one of nunthila_quarrel. Of the same equations it goes
+   through the subsets that are smaller than that, by size from 1, within a size by the first number in which two differ, and tests at most
+   as many as number says. The first that has no common solution is written to out; where none is found, the minimal one. Each equation has
+   a line, as there, and a last line is below=N: the greatest size, at most that of the conflict written, below which every non-empty subset
+   was tested and has a solution. So no conflict has fewer than N equations, and one of N is a shortest. With 0 nothing is tested, and N is
+   1. With a number that is not below the count of the subsets to go through, the conflict written has N equations.
+
+   The time is bounded by number alone. There may be very many subsets: with a minimal conflict of 254 equations at least 2^254 - 2. On such
+   a body a call with UINT64_MAX ends only in principle.
+
+   Whatever number is, the answers, what is told, the tables, and which bytes of out are written are as of nunthila_quarrel. */
+size_t nunthila_shortest(const uint8_t *s, size_t s_len,
+                         uint16_t *rows, size_t rows_len,
+                         uint16_t *cells, size_t cells_len,
+                         uint16_t *nodes, size_t nodes_len,
+                         uint16_t *vars, size_t vars_len,
+                         uint16_t *types, size_t types_len,
+                         nunthila_error *errors, size_t errors_len,
+                         uint16_t *log, size_t log_len,
+                         uint16_t *memory, size_t memory_len,
+                         uint8_t *out, size_t out_len,
+                         size_t *told, size_t told_len,
+                         size_t places, uint64_t number);
 
 #ifdef __cplusplus
 }

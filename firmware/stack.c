@@ -1,7 +1,7 @@
-/* The stack that nunthila_check and nunthila_quarrel take. Each runs on a stack of its own that is filled with a pattern: on bodies of up to
-   64 levels of each two forms of nodes in turn; on the same with an equation at the bottom that searches a lambda for a variable, that goes
-   four functions deep and searches there, or that fails; on chains and rings of lets; and on the bodies that the command line names. The
-   last two lines have the deepest of each function; the exit status is 1 if one is more than 128 KiB. */
+/* The stack that nunthila_check, nunthila_quarrel and nunthila_shortest take. Each runs on a stack of its own that is filled with a pattern:
+   on bodies of up to 64 levels of each two forms of nodes in turn; on the same with an equation at the bottom that searches a lambda for a
+   variable, that goes four functions deep and searches there, or that fails; on chains and rings of lets; and on the bodies that the command
+   line names. The last three lines have the deepest of each function; the exit status is 1 if one is more than 128 KiB. */
 #define _XOPEN_SOURCE 700
 #include "nunthila.h"
 #include <stdio.h>
@@ -22,8 +22,11 @@ static uint8_t out[NUNTHILA_OUT];
 static size_t length;
 static ucontext_t here, there;
 
-enum { CHECK, QUARREL, FUNCTIONS, NONE = FUNCTIONS };
-static const char *const function_name[FUNCTIONS] = {"check", "quarrel"};
+/* How many subsets nunthila_shortest may test: of a chain all of one equation, and many of two. */
+enum { NUMBER = 1000 };
+
+enum { CHECK, QUARREL, SHORTEST, FUNCTIONS, NONE = FUNCTIONS };
+static const char *const function_name[FUNCTIONS] = {"check", "quarrel", "shortest"};
 static int function;
 static size_t answer;
 
@@ -37,6 +40,10 @@ static void run(void)
         answer = nunthila_quarrel(body, length, rows, NUNTHILA_ROWS, cells, NUNTHILA_CELLS, nodes, NUNTHILA_NODES, vars, NUNTHILA_VARS,
                                   types, NUNTHILA_TYPES, errors, NUNTHILA_ERRORS, equations, NUNTHILA_LOG, memory, NUNTHILA_MEMORY, out,
                                   NUNTHILA_OUT, told, NUNTHILA_TOLD, NUNTHILA_PLACES);
+    if (function == SHORTEST)
+        answer = nunthila_shortest(body, length, rows, NUNTHILA_ROWS, cells, NUNTHILA_CELLS, nodes, NUNTHILA_NODES, vars, NUNTHILA_VARS,
+                                   types, NUNTHILA_TYPES, errors, NUNTHILA_ERRORS, equations, NUNTHILA_LOG, memory, NUNTHILA_MEMORY, out,
+                                   NUNTHILA_OUT, told, NUNTHILA_TOLD, NUNTHILA_PLACES, NUMBER);
 }
 
 /* The bytes of the stack that a call of the function changes. */
@@ -184,7 +191,7 @@ enum { ANY = 100 };
 
 static void measure(const char *name, size_t checked, size_t quarreled)
 {
-    const size_t expected[FUNCTIONS] = {checked, quarreled};
+    const size_t expected[FUNCTIONS] = {checked, quarreled, quarreled};
     int of;
     for (of = 0; of < FUNCTIONS; of++) {
         size_t d = depth(of) - without;
@@ -265,6 +272,9 @@ int main(int count, char **names)
         fclose(f);
         measure(names[k], ANY, ANY);
     }
-    printf("deepest stack of check: %zu bytes\ndeepest stack of quarrel: %zu bytes\n", deepest[CHECK], deepest[QUARREL]);
-    return wrong || deepest[CHECK] > MOST || deepest[QUARREL] > MOST;
+    for (k = 0; k < FUNCTIONS; k++) {
+        printf("deepest stack of %s: %zu bytes\n", function_name[k], deepest[k]);
+        wrong |= deepest[k] > MOST;
+    }
+    return wrong;
 }

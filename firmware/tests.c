@@ -1,8 +1,9 @@
 /* Tests of the C interface.
 
-   usage: tests FILE [COPIES]; FILE is reference/quarrels.txt, the bodies by hand of nunthila_quarrel, and COPIES is how many damaged
-   copies of bodies are tried, 2,000 by default. The last line is `N passed, M failed`; exits with 1 on a failure. Static slices stand
-   between elements that must stay as they were. */
+   usage: tests QUARRELS SHORTEST [COPIES [FAILURES]]; the files are reference/quarrels.txt and reference/shortest.txt, the bodies by hand
+   of nunthila_quarrel and nunthila_shortest, COPIES is how many damaged copies of bodies are tried, 2,000 by default, and FAILURES after how
+   many failures the tests end. The last line is `N passed, M failed`; exits with 1 on a failure. Static slices stand between elements that
+   must stay as they were. */
 #include "nunthila.h"
 
 #include <stdio.h>
@@ -11,8 +12,12 @@
 
 /* ---- checks ---- */
 
-static unsigned long passed, failed;
+static unsigned long passed, failed, most_failures;
 static char about[160]; /* what is tried */
+
+static void summary(void) {
+    printf("%lu passed, %lu failed\n", passed, failed);
+}
 
 static void check(int good, const char *what) {
     if (good) {
@@ -24,6 +29,10 @@ static void check(int good, const char *what) {
         printf("%s: %s\n", about, what);
     if (failed == 41)
         printf("further failures are counted only\n");
+    if (failed == most_failures) {
+        summary();
+        exit(1);
+    }
 }
 
 static void check_of(int good, const char *of, const char *what) {
@@ -157,18 +166,32 @@ static void add_text(const char *text) {
     body_length += strlen(text);
 }
 
-/* nunthila_quarrel is tried as two functions: with 0 for places, and with another number. */
-enum { CHECK, REPORT, NUMBERS, PLACES, FUNCTIONS };
+/* nunthila_quarrel and nunthila_shortest are each tried as two functions: with 0 for places, and with another number. */
+enum { CHECK, REPORT, NUMBERS, PLACES, SHORTEST, SHORTEST_PLACES, FUNCTIONS };
 
-static const char *const function_name[FUNCTIONS] = {"check", "report", "quarrel", "quarrel with places"};
+static const char *const function_name[FUNCTIONS] = {"check",   "report", "quarrel", "quarrel with places", "shortest",
+                                                     "shortest with places"};
 
-static int is_quarrel(int which) {
-    return which == NUMBERS || which == PLACES;
+/* Whether it is a form of quarrel or shortest. */
+static int is_conflict(int which) {
+    return which >= NUMBERS;
+}
+
+static int is_shortest(int which) {
+    return which == SHORTEST || which == SHORTEST_PLACES;
+}
+
+static int has_places(int which) {
+    return which == PLACES || which == SHORTEST_PLACES;
 }
 
 /* Numbers other than 0; the last has no bit in its lower half. */
 static const size_t other_than_0[4] = {1, 2, ~(size_t)0, ~(size_t)0 / 2 + 1};
 static size_t places = 1;
+
+/* How many subsets shortest may test in the next call. */
+#define USUAL_NUMBER 100
+static uint64_t number = USUAL_NUMBER;
 
 static void *const lent[SLICES] = {rows_room + AROUND,  cells_room + AROUND,  nodes_room + AROUND, vars_room + AROUND,
                                    types_room + AROUND, errors_room + AROUND, log_room + AROUND,   memory_room + AROUND,
@@ -182,7 +205,10 @@ static size_t call_in(int which, const uint8_t *s, void *const *slice) {
         return nunthila_check(s, body_length, LENT_TABLES, LENT(TOLD));
     if (which == REPORT)
         return nunthila_report(s, body_length, LENT_TABLES, LENT(OUT), LENT(TOLD));
-    return nunthila_quarrel(s, body_length, LENT_TABLES, LENT(OUT), LENT(TOLD), which == NUMBERS ? NUNTHILA_NUMBERS : places);
+#define LENT_FORM LENT(OUT), LENT(TOLD), has_places(which) ? places : NUNTHILA_NUMBERS
+    if (is_shortest(which))
+        return nunthila_shortest(s, body_length, LENT_TABLES, LENT_FORM, number);
+    return nunthila_quarrel(s, body_length, LENT_TABLES, LENT_FORM);
 }
 
 static size_t call(int which) {
@@ -418,12 +444,13 @@ static void judge_text(size_t answer) {
     check(n == rebuilt_length && memcmp(out, rebuilt, n) == 0, "the text is that of the tables");
 }
 
-/* The lines of a text of quarrel; without places, the numbers alone. */
+/* The lines of a text of quarrel or shortest; without places, the numbers alone. */
 struct line {
     size_t number, node, expected, got;
 };
 static struct line lines[2048];
 static size_t line_count;
+static size_t below_line; /* the number of the last line of shortest */
 
 /* The next number of a text, or 0. */
 static size_t next_number(const char **at) {
@@ -436,7 +463,7 @@ static size_t next_number(const char **at) {
     return n;
 }
 
-/* Reads the text of quarrel. Returns whether it is what its numbers give, written anew. */
+/* Reads the text of quarrel or shortest. Returns whether it is what its numbers give, written anew. */
 static int read_lines(int which) {
     static char text[OUT_MOST + 1];
     const char *at = text;
@@ -446,16 +473,20 @@ static int read_lines(int which) {
     text[n] = '\0';
     line_count = 0;
     rebuilt_length = 0;
-    while (*at != '\0' && line_count < 2048) {
+    while (strncmp(at, "equation=", 9) == 0 && line_count < 2048) {
         struct line *l = &lines[line_count++];
         put_number("equation=", l->number = next_number(&at));
-        if (which == PLACES) {
+        if (has_places(which)) {
             put_number(",", l->node = next_number(&at));
             put_number(",", l->expected = next_number(&at));
             put_number(",", l->got = next_number(&at));
         }
         put("\n");
         at += *at == '\n';
+    }
+    if (is_shortest(which)) {
+        put_number("below=", below_line = next_number(&at));
+        put("\n");
     }
     return n == rebuilt_length && memcmp(out, rebuilt, n) == 0;
 }
@@ -486,7 +517,7 @@ static int is_plain(size_t t) {
     }
 }
 
-/* Judges quarrel by the log, which has to hold every equation; the lines are read if the answer is 0. */
+/* Judges quarrel or shortest by the log, which has to hold every equation; the lines are read if the answer is 0. */
 static void judge_by_log(int which, size_t answer) {
     const size_t count = told[NUNTHILA_TOLD_EQUATIONS];
     size_t worked = 0, i;
@@ -503,7 +534,7 @@ static void judge_by_log(int which, size_t answer) {
     if (answer != 0 || line_count == 0)
         return;
     check(lines[line_count - 1].number == worked, "the last line is that of the first equation that failed");
-    if (which != PLACES)
+    if (!has_places(which))
         return;
     good = 1;
     for (i = 0; i < line_count && good; i++) {
@@ -514,10 +545,10 @@ static void judge_by_log(int which, size_t answer) {
     check(good, "each line has a node, and the sides that the log has");
 }
 
-/* The answer of the check. Behind 0, 9 and 14 of quarrel it is 0 or 12, told by the counts. */
+/* The answer of the check. Behind 0, 9 and 14 of quarrel and shortest it is 0 or 12, told by the counts. */
 static size_t checked_answer(int which) {
     size_t a = told[NUNTHILA_TOLD_ANSWER];
-    if (!is_quarrel(which) || (a != NUNTHILA_CHECKED && a != NUNTHILA_NO_ROOM && a != NUNTHILA_NOTHING))
+    if (!is_conflict(which) || (a != NUNTHILA_CHECKED && a != NUNTHILA_NO_ROOM && a != NUNTHILA_NOTHING))
         return a;
     return told[NUNTHILA_TOLD_NODES] > 0 ? NUNTHILA_CHECKED : NUNTHILA_INSIDE_ITSELF;
 }
@@ -540,6 +571,8 @@ static void judge_conflict(int which, size_t answer) {
         for (i = 1; i < line_count; i++)
             rising = rising && lines[i - 1].number < lines[i].number;
         check(rising, "the numbers rise");
+        if (is_shortest(which))
+            check(below_line >= 1 && below_line <= (number == 0 ? 1 : line_count), "below= is at most the lines, and 1 without a test");
     }
     if (checked_answer(which) == NUNTHILA_CHECKED && told[NUNTHILA_TOLD_EQUATIONS] <= length[LOG] / NUNTHILA_EQUATION_CELLS)
         judge_by_log(which, answer);
@@ -551,8 +584,8 @@ static void judge(int which, size_t answer) {
     int of_line = t >= 3 && t <= 6, of_node = t >= 10 && t <= 13, s;
 
     check(a <= 6 || (a >= 10 && a <= 13), "the answer of the check is one of 0 to 6, 10 to 13");
-    if (is_quarrel(which))
-        check(answer == t && t != NUNTHILA_INSIDE_ITSELF, "what quarrel returns is told, and is not 12");
+    if (is_conflict(which))
+        check(answer == t && t != NUNTHILA_INSIDE_ITSELF, "what quarrel or shortest returns is told, and is not 12");
     else
         check(answer == t || (which == REPORT && answer == NUNTHILA_NO_ROOM),
               "what is returned is the answer of the check, or 9 of report");
@@ -582,7 +615,7 @@ static void judge(int which, size_t answer) {
     }
     if (which == REPORT)
         judge_text(answer);
-    else if (is_quarrel(which))
+    else if (is_conflict(which))
         judge_conflict(which, answer);
     else
         check(told[NUNTHILA_TOLD_LENGTH] == 0, "told: no text of check");
@@ -762,14 +795,15 @@ static void known_bodies(void) {
     expect("byte 0", 3, 1, "answer=3,1\n");
 }
 
-/* A form of quarrel on the body whose slices of check are kept, in an output of so many bytes: answer, place and text. */
+/* A form of quarrel or shortest on the body whose slices of check are kept, in an output of so many bytes: answer, place and text. */
 static void expect_conflict(const char *name, int which, size_t bytes, size_t answer, size_t place, const char *text, size_t fit) {
     static unsigned seed = 0;
     size_t got;
 
     usual_lengths();
     length[OUT] = bytes;
-    snprintf(about, sizeof about, "%s %s, output of %lu bytes", function_name[which], name, (unsigned long)bytes);
+    snprintf(about, sizeof about, "%s %s, output of %lu bytes, number %llu", function_name[which], name, (unsigned long)bytes,
+             (unsigned long long)number);
     got = run(which, seed++);
     check(got == answer, "answer");
     check(told[NUNTHILA_TOLD_PLACE] == place, "place");
@@ -796,7 +830,26 @@ static void expect_in_rooms(const char *name, int which, size_t answer, size_t p
     }
 }
 
-/* Both forms on the body that is set. */
+/* The text of shortest where it finds nothing: that of quarrel, of so many bytes, and a last line; none on a refusal. */
+static const char *with_below(size_t answer, const char *text, size_t fit, unsigned below) {
+    static char whole[OUT_MOST];
+
+    whole[0] = '\0';
+    if (answer == 0)
+        snprintf(whole, sizeof whole, "%.*sbelow=%u\n", (int)fit, text, below);
+    return whole;
+}
+
+/* A form of shortest with so many tests where it finds nothing. */
+static void expect_stays(const char *name, int which, uint64_t tests, size_t answer, size_t place, const char *text, unsigned below) {
+    const char *whole = with_below(answer, text, strlen(text), below);
+
+    number = tests;
+    expect_in_rooms(name, which, answer, place, whole, strlen(whole));
+    number = USUAL_NUMBER;
+}
+
+/* Both forms of quarrel on the body that is set, and of shortest without a test; on a refusal also with as many as there can be. */
 static void expect_quarrel(const char *name, size_t answer, size_t place, const char *numbers, const char *with_places) {
     usual_lengths();
     snprintf(about, sizeof about, "check %s", name);
@@ -804,9 +857,11 @@ static void expect_quarrel(const char *name, size_t answer, size_t place, const 
     keep();
     expect_in_rooms(name, NUMBERS, answer, place, numbers, strlen(numbers));
     expect_in_rooms(name, PLACES, answer, place, with_places, strlen(with_places));
+    expect_stays(name, SHORTEST, 0, answer, place, numbers, 1);
+    expect_stays(name, SHORTEST_PLACES, answer == 0 ? 0 : UINT64_MAX, answer, place, with_places, 1);
 }
 
-/* Those of the bodies above that have a minimal conflict. */
+/* Those of the bodies above that have a minimal conflict, each of one equation. */
 static const struct {
     const char *name, *numbers, *with_places;
 } conflicts[] = {
@@ -825,6 +880,7 @@ static void known_conflicts(void) {
         set_text(b->body);
         if (k < sizeof conflicts / sizeof conflicts[0]) {
             expect_quarrel(b->name, 0, 0, conflicts[k].numbers, conflicts[k].with_places);
+            expect_stays(b->name, SHORTEST, UINT64_MAX, 0, 0, conflicts[k].numbers, 1);
             found++;
         } else if (b->answer == NUNTHILA_CHECKED) {
             expect_quarrel(b->name, NUNTHILA_NOTHING, 0, "", "");
@@ -941,12 +997,14 @@ static void sizes(void) {
     }
 }
 
-/* ---- the bodies by hand of quarrel ---- */
+/* ---- the bodies by hand of quarrel and shortest ---- */
 
-/* What is expected of a body: of the functions from the first to the last, in an output of so many bytes, or in any with room if given is
-   0. */
+/* What is expected of a body: of the functions from the first to the last, with each of the numbers, in an output of so many bytes, or in
+   any with room if given is 0. */
 struct part {
     int first, last, given;
+    uint64_t numbers[8]; /* one, which is not used, of quarrel */
+    size_t number_count;
     size_t bytes, answer, place;
     const char *text;
     size_t fit;
@@ -954,8 +1012,9 @@ struct part {
 
 struct by_hand {
     const char *name, *body;
+    int form;             /* the function without places */
     size_t length, parts; /* of the body in bytes, and how many are expected of it */
-    struct part part[8];
+    struct part part[16];
 };
 
 static struct by_hand by_hand[256];
@@ -967,16 +1026,27 @@ static void not_read(const char *path, const char *why) {
 }
 
 /* The head of a part, behind `--`, up to the line feed. */
-static void read_head(const char *path, const char *at, struct part *p) {
-    char form[16] = "", word[16] = "";
+static void read_head(const char *path, const char *at, int form, struct part *p) {
+    char word[16] = "";
     unsigned long bytes = 0;
 
-    p->first = p->last = NUMBERS;
+    p->first = p->last = form;
+    while (is_shortest(form) && at[0] == ' ' && at[1] >= '0' && at[1] <= '9') {
+        char *end;
+        if (p->number_count == 8)
+            not_read(path, at);
+        p->numbers[p->number_count++] = strtoull(at, &end, 10);
+        at = end;
+    }
+    if (!is_shortest(form))
+        p->number_count = 1;
+    if (p->number_count == 0)
+        not_read(path, at);
     if (strncmp(at, " where", 6) == 0 || strncmp(at, " either", 7) == 0) {
-        sscanf(at, "%15s", form);
-        p->last = PLACES;
-        p->first = strcmp(form, "where") == 0 ? PLACES : NUMBERS;
-        at += 1 + strlen(form);
+        sscanf(at, "%15s", word);
+        p->last = form + 1;
+        p->first = strcmp(word, "where") == 0 ? form + 1 : form;
+        at += 1 + strlen(word);
     }
     p->given = *at != '\n';
     if (p->given && (sscanf(at, "%15s %lu", word, &bytes) != 2 || strcmp(word, "room") != 0))
@@ -984,18 +1054,52 @@ static void read_head(const char *path, const char *at, struct part *p) {
     p->bytes = bytes;
 }
 
-/* Reads the file; its first lines say of what form it is. */
-static void read_by_hand(const char *path) {
-    static char file[1 << 17];
+/* Bodies that stand in one line of the files. */
+static char expanded[1 << 17];
+static size_t expanded_length;
+
+static void expand_part(const char *path, const char *from, const char *to, unsigned long turn) {
+    for (; from < to; from++) {
+        if (*from == '\\' || expanded_length + 24 > sizeof expanded)
+            not_read(path, from);
+        if (*from == '#')
+            expanded_length += (size_t)sprintf(expanded + expanded_length, "%lu", turn);
+        else
+            expanded[expanded_length++] = *from == '/' ? '\n' : *from;
+    }
+}
+
+/* Adds the bytes of a body on one line: `/` is a line feed, `{N:T}` the text T N times, where `#` in T is the number of the turn from 0. */
+static void expand(const char *path, const char *at) {
+    while (*at != '\n') {
+        const char *stop = at + strcspn(at, "{\n"), *close;
+        unsigned long turns, turn;
+        char *colon;
+        expand_part(path, at, stop, 0);
+        at = stop;
+        if (*at == '\n')
+            return;
+        turns = strtoul(at + 1, &colon, 10);
+        close = at + strcspn(at, "}\n");
+        if (*colon != ':' || *close != '}')
+            not_read(path, at);
+        for (turn = 0; turn < turns; turn++)
+            expand_part(path, colon + 1, close, turn);
+        at = close + 1;
+    }
+}
+
+/* Reads a file into a room of so many bytes; its first lines say of what form it is. */
+static void read_by_hand(const char *path, int form, char *file, size_t room_bytes) {
     FILE *f = fopen(path, "rb");
-    size_t n = f ? fread(file, 1, sizeof file - 1, f) : 0;
+    size_t n = f ? fread(file, 1, room_bytes - 1, f) : 0;
     struct by_hand *c = NULL;
     struct part *p = NULL;
     char *at, *next;
 
     if (f)
         fclose(f);
-    if (n == 0 || n == sizeof file - 1 || file[n - 1] != '\n')
+    if (n == 0 || n == room_bytes - 1 || file[n - 1] != '\n')
         not_read(path, "no file of bodies");
     for (at = file; *at != '\0'; at = next) {
         next = strchr(at, '\n') + 1;
@@ -1005,15 +1109,16 @@ static void read_by_hand(const char *path) {
             c = &by_hand[by_hand_count++];
             c->name = at + 3;
             c->body = next;
+            c->form = form;
             next[-1] = '\0';
             p = NULL;
         } else if (c == NULL || *at == '\n') {
             continue;
         } else if (strncmp(at, "--", 2) == 0) {
-            if (c->parts == 8)
+            if (c->parts == 16)
                 not_read(path, c->name);
             p = &c->part[c->parts++];
-            read_head(path, at + 2, p);
+            read_head(path, at + 2, form, p);
         } else if (p != NULL && p->text == NULL) {
             const char *place = strchr(at, ',');
             if (strncmp(at, "answer=", 7) != 0 || place == NULL)
@@ -1025,16 +1130,19 @@ static void read_by_hand(const char *path) {
             p->fit += (size_t)(next - at);
         } else if (*at == '#' && c->length == 0) {
             c->body = next;
-        } else if (strncmp(at, "text", 4) != 0) {
+        } else if (strncmp(at, "text ", 5) == 0) {
+            c->body = expanded + expanded_length;
+            expand(path, at + 5);
+            c->length = (size_t)(expanded + expanded_length - c->body);
+        } else if (strncmp(at, "text\n", 5) != 0) { /* `text` alone is the empty body */
             c->length += (size_t)(next - at);
-        } else if (at[4] != '\n') { /* `text` alone is the empty body */
-            not_read(path, c->name);
         }
     }
 }
 
+/* Those of quarrel are tried with shortest without a test too. */
 static void bodies_by_hand(void) {
-    size_t i, k;
+    size_t i, j, k;
     int which;
 
     for (i = 0; i < by_hand_count; i++) {
@@ -1048,19 +1156,55 @@ static void bodies_by_hand(void) {
         for (k = 0; k < c->parts; k++) {
             const struct part *p = &c->part[k];
             for (which = p->first; which <= p->last; which++) {
-                if (p->given) {
-                    expect_conflict(c->name, which, p->bytes, p->answer, p->place, p->text, p->fit);
-                } else {
-                    expect_in_rooms(c->name, which, p->answer, p->place, p->text, p->fit);
-                    tried[which] = 1;
+                for (j = 0; j < p->number_count; j++) {
+                    number = p->numbers[j];
+                    if (p->given)
+                        expect_conflict(c->name, which, p->bytes, p->answer, p->place, p->text, p->fit);
+                    else
+                        expect_in_rooms(c->name, which, p->answer, p->place, p->text, p->fit);
+                }
+                tried[which] |= !p->given;
+                if (c->form == NUMBERS && !p->given) {
+                    const char *whole = with_below(p->answer, p->text, p->fit, 1);
+                    number = 0;
+                    expect_conflict(c->name, which == NUMBERS ? SHORTEST : SHORTEST_PLACES, NUNTHILA_OUT, p->answer, p->place, whole,
+                                    strlen(whole));
                 }
             }
         }
+        number = USUAL_NUMBER;
         snprintf(about, sizeof about, "body by hand %s", c->name);
-        check(tried[NUMBERS] && tried[PLACES], "both forms are tried");
+        check(tried[c->form] && tried[c->form + 1], "both forms are tried");
     }
     strcpy(about, "bodies by hand");
-    check(by_hand_count >= 70, "there are 70");
+    check(by_hand_count >= 70 + 41, "there are 70 of quarrel and 41 of shortest");
+}
+
+/* b = true, a = true, a = b, b = 1: the subset of the first and the last is tested as the seventh. No bit of the number is disregarded. */
+static void numbers_of_tests(void) {
+    static const char all[] = "equation=1\nequation=2\nequation=3\n", found[] = "equation=0\nequation=3\nbelow=2\n";
+    static const char found_with_places[] = "equation=0,4,15,1\nequation=3,13,15,16\nbelow=2\n";
+    unsigned tests, bit;
+
+    set_text("node=let,-,-\nnode=let,-,-\nnode=path,l1,1\nnode=bool\nnode=assign,2,3\nnode=path,l0,1\nnode=bool\nnode=assign,5,6\n"
+             "node=path,l0,1\nnode=path,l1,1\nnode=assign,8,9\nnode=path,l1,1\nnode=int\nnode=assign,11,12\n"
+             "node=block,-,0,1,4,7,10,13\nfn=0,14\n");
+    usual_lengths();
+    strcpy(about, "numbers of tests, check");
+    run(CHECK, 1);
+    keep();
+    for (tests = 0; tests < 7; tests++)
+        expect_stays("numbers of tests", SHORTEST, tests, 0, 0, all, tests < 4 ? 1 : 2);
+    number = 7;
+    expect_in_rooms("numbers of tests", SHORTEST, 0, 0, found, strlen(found));
+    for (bit = 3; bit < 64; bit++) {
+        number = (uint64_t)1 << bit;
+        expect_conflict("numbers of tests", SHORTEST, NUNTHILA_OUT, 0, 0, found, strlen(found));
+    }
+    number = UINT64_MAX;
+    expect_in_rooms("numbers of tests", SHORTEST, 0, 0, found, strlen(found));
+    expect_in_rooms("numbers of tests", SHORTEST_PLACES, 0, 0, found_with_places, strlen(found_with_places));
+    number = USUAL_NUMBER;
 }
 
 /* A body of 1,024 nodes: let a, b, .., z; a = true; a = b; b = c; ..; z = 1, 253 lets in all. Without any one of its 254 equations there is
@@ -1108,6 +1252,11 @@ static void full_conflict(void) {
     expect("1,024 nodes, 254 equations", 0, 0, NULL);
     check(told[NUNTHILA_TOLD_NODES] == 1024 && told[NUNTHILA_TOLD_EQUATIONS] == 255, "told: nodes and equations");
     expect_quarrel("1,024 nodes, 254 equations", 0, 0, numbers, with_places);
+    /* 254 subsets of one equation, 32,131 of two. */
+    expect_stays("1,024 nodes, 254 equations", SHORTEST, 253, 0, 0, numbers, 1);
+    expect_stays("1,024 nodes, 254 equations", SHORTEST_PLACES, 254, 0, 0, with_places, 2);
+    expect_stays("1,024 nodes, 254 equations", SHORTEST, 32384, 0, 0, numbers, 2);
+    expect_stays("1,024 nodes, 254 equations", SHORTEST, 32385, 0, 0, numbers, 3);
     nodes_of(1024);
     expect_quarrel("1,024 nodes", NUNTHILA_NOTHING, 0, "", "");
     nodes_of(1025);
@@ -1205,7 +1354,7 @@ static void short_tables(void) {
                 check(run(which, 5) == 2, "2 before 3");
                 set_text("node=str\nfn=0,0\n");
                 check(run(which, 5) == 2, "2 before 10");
-                if (is_quarrel(which)) {
+                if (is_conflict(which)) {
                     length[OUT] = 0;
                     check(run(which, 5) == 2, "2 before 9");
                 }
@@ -1261,6 +1410,8 @@ static void logs(void) {
         check(same(log_cells, equations, whole), "the equations that fit whole, of report");
         check(run(NUMBERS, 11) == NUNTHILA_NOTHING, "14 of quarrel");
         check(same(log_cells, equations, whole), "the equations that fit whole, of quarrel");
+        check(run(SHORTEST, 11) == NUNTHILA_NOTHING, "14 of shortest");
+        check(same(log_cells, equations, whole), "the equations that fit whole, of shortest");
     }
 
     /* a = true, b = 1, a = 1 */
@@ -1276,6 +1427,10 @@ static void logs(void) {
         check(tables_as_kept(), "the tables are those of check");
         check(told[NUNTHILA_TOLD_LENGTH] == 38 && memcmp(out, "equation=0,3,14,1\nequation=2,10,14,17\n", 38) == 0,
               "the same text with any log");
+        check(run(SHORTEST_PLACES, 13) == 0, "0 of shortest");
+        check(tables_as_kept(), "the tables are those of check");
+        check(told[NUNTHILA_TOLD_LENGTH] == 46 && memcmp(out, "equation=0,3,14,1\nequation=2,10,14,17\nbelow=2\n", 46) == 0,
+              "the same text of shortest with any log");
     }
 }
 
@@ -1431,14 +1586,14 @@ static void used_again(void) {
     }
 }
 
-/* Quarrel behind each function. */
-static void used_by_quarrel(void) {
+/* Quarrel and shortest behind each function. */
+static void used_by_conflicts(void) {
     static const char *const bodies[] = {quarrel, methods, inside, keys, "x", "node=str\nfn=0,0\n"};
     enum { BODIES = sizeof bodies / sizeof bodies[0] };
     size_t i, k;
     int which, earlier;
 
-    for (which = NUMBERS; which <= PLACES; which++) {
+    for (which = NUMBERS; which < FUNCTIONS; which++) {
         for (k = 0; k < BODIES; k++) {
             size_t answer;
             usual_lengths();
@@ -1604,17 +1759,107 @@ static void other_literal(size_t at) {
     }
 }
 
-/* Damaged copies of the bodies by hand of quarrel. */
+/* How many subsets of so many out of n there are, or the greatest number where they are about as many. */
+static uint64_t subsets(size_t n, size_t size) {
+    uint64_t count = 1;
+    size_t i;
+    for (i = 0; i < size; i++) {
+        if (n - i > 0 && count > UINT64_MAX / (n - i))
+            return UINT64_MAX;
+        count = count * (n - i) / (i + 1);
+    }
+    return count;
+}
+
+static uint64_t sum(uint64_t a, uint64_t b) {
+    return a > UINT64_MAX - b ? UINT64_MAX : a + b;
+}
+
+/* How many subsets of n are smaller than a size, the empty one apart. */
+static uint64_t smaller(size_t n, size_t size) {
+    uint64_t count = 0;
+    size_t k;
+    for (k = 1; k < size; k++)
+        count = sum(count, subsets(n, k));
+    return count;
+}
+
+/* As which one, from 1, the subset of n that was read is tested; the greatest number where it is none. */
+static uint64_t position(size_t n) {
+    uint64_t before = smaller(n, line_count);
+    size_t i, x = 0;
+    for (i = 0; i < line_count; i++, x++) {
+        if (lines[i].number < x || lines[i].number >= n)
+            return UINT64_MAX;
+        for (; x < lines[i].number; x++)
+            before = sum(before, subsets(n - 1 - x, line_count - 1 - i));
+    }
+    return sum(before, 1);
+}
+
+/* The lines of a call, to be compared with those of another one. */
+struct kept_lines {
+    size_t answer, count, below;
+    struct line line[2048];
+};
+
+static void keep_lines(size_t answer, struct kept_lines *to) {
+    to->answer = answer;
+    to->count = line_count;
+    to->below = below_line;
+    memcpy(to->line, lines, line_count * sizeof *lines);
+}
+
+/* Whether the answer and the numbers of the equations are the same. */
+static int lines_as_kept(size_t answer, const struct kept_lines *other) {
+    size_t k;
+    int good = answer == other->answer && line_count == other->count;
+    for (k = 0; good && k < line_count; k++)
+        good = lines[k].number == other->line[k].number;
+    return good;
+}
+
+/* Judges shortest, which was just called without places, by the minimal conflict: where it finds nothing, below= is what the count of the
+   subsets gives; what it finds is smaller, and is found with just as many tests as there are up to it. Returns whether it finds one. */
+static int judge_search(size_t answer, const struct kept_lines *minimal) {
+    const uint64_t given = number;
+    size_t n, found = line_count;
+
+    if (minimal->answer != 0 || minimal->count == 0) {
+        check(lines_as_kept(answer, minimal), "the answer of quarrel");
+        return 0;
+    }
+    n = minimal->line[minimal->count - 1].number + 1;
+    if (lines_as_kept(answer, minimal)) {
+        size_t size = minimal->count;
+        while (size > 1 && smaller(n, size) > number)
+            size--;
+        check(below_line == size, "below= is the greatest size below which all subsets are tested");
+        return 0;
+    }
+    check(answer == 0 && found < minimal->count && below_line == found, "what is found is smaller, and below= is its size");
+    check(position(n) <= number, "it is found with as many tests as there are up to it");
+    number = position(n);
+    check(call(SHORTEST) == 0 && read_lines(SHORTEST) && line_count == found && below_line == found, "it is found with just these");
+    number = number > 0 ? number - 1 : 0;
+    check(call(SHORTEST) == 0 && read_lines(SHORTEST) && lines_as_kept(0, minimal) && below_line == found, "not with one less");
+    number = given;
+    return 1;
+}
+
+/* Damaged copies of the bodies by hand of quarrel and shortest. */
 static void damaged_conflicts(unsigned long copies) {
     static uint8_t text[OUT_MOST];
-    static struct line numbers[2048];
-    unsigned long i, answers[15] = {0}, inside_itself = 0;
+    static struct kept_lines minimal, searched;
+    unsigned long i, answers[15] = {0}, inside_itself = 0, found = 0;
 
     for (i = 0; i < copies; i++) {
         const struct by_hand *c = &by_hand[i % by_hand_count];
-        size_t a, b, k, n, first_answer = 0, first_count = 0;
-        int which, good;
+        size_t a, b, n;
+        int which;
 
+        if (c->length > NUNTHILA_BYTES) /* the tables are not written */
+            continue;
         set_body(c->body, c->length);
         for (n = below(3); n > 0 && body_length > 0; n--)
             other_literal(below(body_length));
@@ -1626,7 +1871,8 @@ static void damaged_conflicts(unsigned long copies) {
         snprintf(about, sizeof about, "damaged copy %lu of %s, check", i, c->name);
         a = run(CHECK, (unsigned)(3 * i));
         keep();
-        for (which = NUMBERS; which <= PLACES; which++) {
+        number = below(4) == 0 ? 0 : below(below(2) == 0 ? 12 : 1000);
+        for (which = NUMBERS; which < FUNCTIONS; which++) {
             snprintf(about, sizeof about, "damaged copy %lu of %s, %s", i, c->name, function_name[which]);
             length[OUT] = NUNTHILA_OUT;
             b = run(which, (unsigned)(3 * i + (unsigned)which));
@@ -1636,16 +1882,14 @@ static void damaged_conflicts(unsigned long copies) {
                 check(b == a && as_kept(TOLD, NUNTHILA_TOLD), "answer and place of check where it refuses otherwise");
             check(tables_as_kept(), "the tables are those of check");
             check(counts_as_kept(), "the counts are those of check");
-            if (which == NUMBERS) {
-                first_answer = b;
-                first_count = line_count;
-                memcpy(numbers, lines, line_count * sizeof *lines);
-            } else {
-                good = b == first_answer && line_count == first_count;
-                for (k = 0; good && k < line_count; k++)
-                    good = lines[k].number == numbers[k].number;
-                check(good, "both forms have the same numbers");
-            }
+            if (which == NUMBERS)
+                keep_lines(b, &minimal);
+            else if (which == SHORTEST)
+                keep_lines(b, &searched);
+            else
+                check(lines_as_kept(b, which == PLACES ? &minimal : &searched), "both forms have the same numbers");
+            if (which == SHORTEST_PLACES && b == 0)
+                check(below_line == searched.below, "both forms have the same below=");
             /* The text fits into its own length, and not into one byte less; a refusal needs no room. */
             n = told[NUNTHILA_TOLD_LENGTH] <= length[OUT] ? told[NUNTHILA_TOLD_LENGTH] : 0;
             memcpy(text, out, n);
@@ -1657,13 +1901,20 @@ static void damaged_conflicts(unsigned long copies) {
                 check(run(which, (unsigned)(3 * i)) == NUNTHILA_NO_ROOM, "9 with one byte less");
                 check(tables_as_kept(), "the tables are those of check, on 9 too");
             }
+            if (which == SHORTEST) {
+                length[OUT] = NUNTHILA_OUT;
+                check(run(SHORTEST, (unsigned)i) == b, "the same answer again");
+                found += (unsigned long)judge_search(b, &minimal);
+            }
             if (b < 15)
                 answers[b]++;
             inside_itself += a == NUNTHILA_INSIDE_ITSELF && b == 0;
         }
     }
+    number = USUAL_NUMBER;
     if (copies >= 2000) {
-        strcpy(about, "damaged copies, quarrel");
+        strcpy(about, "damaged copies, quarrel and shortest");
+        check(found > copies / 100, "of some a shorter conflict is found");
         check(answers[0] > copies / 4 && answers[NUNTHILA_NOTHING] > copies / 4, "many are answered 0 and 14");
         check(answers[3] > copies / 50 && answers[5] > copies / 50 && answers[10] > 0 && answers[11] > 0 && answers[13] > 0,
               "some are answered 3, 5, 10, 11 and 13");
@@ -1672,18 +1923,22 @@ static void damaged_conflicts(unsigned long copies) {
 }
 
 int main(int argc, char **argv) {
-    unsigned long copies = argc > 2 ? strtoul(argv[2], NULL, 10) : 2000;
+    static char quarrels[1 << 17], shortest[1 << 17];
+    unsigned long copies = argc > 3 ? strtoul(argv[3], NULL, 10) : 2000;
     int which;
 
-    if (argc < 2)
-        not_read("usage", "tests FILE [COPIES]");
-    read_by_hand(argv[1]);
+    if (argc < 3)
+        not_read("usage", "tests QUARRELS SHORTEST [COPIES [FAILURES]]");
+    most_failures = argc > 4 ? strtoul(argv[4], NULL, 10) : 0;
+    read_by_hand(argv[1], NUMBERS, quarrels, sizeof quarrels);
+    read_by_hand(argv[2], SHORTEST, shortest, sizeof shortest);
     make_pattern();
     known_bodies();
     known_conflicts();
     limits();
     sizes();
     bodies_by_hand();
+    numbers_of_tests();
     full_conflict();
     cells_by_hand();
     short_tables();
@@ -1695,9 +1950,9 @@ int main(int argc, char **argv) {
         exact_slices(which);
     }
     used_again();
-    used_by_quarrel();
+    used_by_conflicts();
     damaged(copies);
     damaged_conflicts(copies);
-    printf("%lu passed, %lu failed\n", passed, failed);
+    summary();
     return failed > 0;
 }

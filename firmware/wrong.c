@@ -1,6 +1,6 @@
 /* A library that is wrong in one way, to see that the tests tell it: the true functions, renamed, and a fault behind them. The variable
-   NUNTHILA_FAULT has the number of the fault; 0 is none, those from 101 on are of nunthila_quarrel. `test` builds the tests with it and
-   wants each fault to be told. */
+   NUNTHILA_FAULT has the number of the fault; 0 is none. Those from 101 to 199 are of nunthila_quarrel, and with 100 more of
+   nunthila_shortest; those from 301 on are of nunthila_shortest alone. `test` builds the tests with it and wants each fault to be told. */
 #include "nunthila.h"
 
 #include <stdio.h>
@@ -19,6 +19,7 @@
 size_t nunthila_true_check(SLICES, size_t *told, size_t told_len);
 size_t nunthila_true_report(SLICES, uint8_t *out, size_t out_len, size_t *told, size_t told_len);
 size_t nunthila_true_quarrel(SLICES, uint8_t *out, size_t out_len, size_t *told, size_t told_len, size_t places);
+size_t nunthila_true_shortest(SLICES, uint8_t *out, size_t out_len, size_t *told, size_t told_len, size_t places, uint64_t number);
 
 static int fault(void) {
     static int number = -1;
@@ -29,8 +30,9 @@ static int fault(void) {
     return number;
 }
 
-static uint16_t spare[NUNTHILA_CELLS + NUNTHILA_MEMORY]; /* as long as any table */
-static nunthila_error spare_errors[NUNTHILA_ERRORS];
+/* Each thread has its own, since the tests of the wrapper call from several. */
+static __thread uint16_t spare[NUNTHILA_CELLS + NUNTHILA_MEMORY]; /* as long as any table */
+static __thread nunthila_error spare_errors[NUNTHILA_ERRORS];
 
 /* No table that is used below is short, and told is whole. */
 #define WHOLE (rows_len >= NUNTHILA_ROWS && memory_len >= NUNTHILA_MEMORY && told_len >= NUNTHILA_TOLD)
@@ -239,28 +241,39 @@ size_t nunthila_report(SLICES, uint8_t *out, size_t out_len, size_t *told, size_
     return either(1, GIVEN, out, out_len, told, told_len);
 }
 
-/* ---- nunthila_quarrel ---- */
+/* ---- nunthila_quarrel and nunthila_shortest ---- */
 
-static uint8_t spare_out[2 * NUNTHILA_OUT];
+static __thread uint8_t spare_out[2 * NUNTHILA_OUT];
 
 static size_t put_line(size_t to, int fields, unsigned q, unsigned node, unsigned x, unsigned y) {
     char *end = (char *)spare_out + to;
     return to + (size_t)(fields == 1 ? sprintf(end, "equation=%u\n", q) : sprintf(end, "equation=%u,%u,%u,%u\n", q, node, x, y));
 }
 
+static size_t put_below(size_t to, unsigned below) {
+    return to + (size_t)sprintf((char *)spare_out + to, "below=%u\n", below);
+}
+
 /* Writes the text with the fault to spare_out; its bytes. */
-static size_t rewritten(int f, const uint8_t *out, size_t n) {
-    static char text[NUNTHILA_OUT + 1];
+static size_t rewritten(int f, const uint8_t *out, size_t n, uint64_t number) {
+    static __thread char text[NUNTHILA_OUT + 1];
     const char *at = text;
-    size_t to = 0, line;
+    size_t to = 0, line, last_line;
+    unsigned below = 0;
 
     memcpy(text, out, n);
     text[n] = '\0';
-    for (line = 0; *at != '\0'; line++) {
+    at = strstr(text, "below=");
+    if (at != NULL)
+        sscanf(at, "below=%u", &below);
+    last_line = at != NULL ? (size_t)(at - text) : n; /* where the lines of equations end */
+    if (f == 310) /* below= is the first line */
+        to = put_below(to, below);
+    for (line = 0, at = text; at < text + last_line; line++) {
         unsigned q = 0, node = 0, x = 0, y = 0;
         int fields = sscanf(at, "equation=%u,%u,%u,%u", &q, &node, &x, &y), last;
         at = strchr(at, '\n') + 1;
-        last = *at == '\0';
+        last = at == text + last_line;
         if (f == 142 && line == 0 && q > 0) /* one more */
             to = put_line(to, fields, q - 1, 0, 0, 0);
         if (f == 143 && line == 0 && !last) /* the first is missing */
@@ -271,17 +284,44 @@ static size_t rewritten(int f, const uint8_t *out, size_t n) {
             to = put_line(to, fields, q, node, x, y);
         if (f == 146) /* counted from 1 */
             q++;
+        if (f == 311 && line == 0 && !last && q > 0) /* another set of the same size */
+            q--;
         if (f == 147)
             to = put_line(to, fields, q, node, y, x);
         else
             to = put_line(to, fields, q, node + (f == 148), x + (f == 149), y);
     }
-    return to;
+    if (below == 0) {
+        if (f == 183) /* a last line that quarrel does not have */
+            to = put_below(to, 1);
+        return to;
+    }
+    if (f == 183) /* shortest: a last line more */
+        to = put_below(to, below);
+    if (f == 312) /* one more */
+        below++;
+    if (f == 313 && below > 1) /* one less */
+        below--;
+    if (f == 314 && number == 0) /* 0 where nothing is tested */
+        below = 0;
+    if (f == 315) /* that of an answer for which all were tested */
+        below = (unsigned)line;
+    if (f == 309 || f == 310) /* it is missing */
+        return to;
+    return put_below(to, below) - (f == 316); /* without its line feed */
 }
 
-size_t nunthila_quarrel(SLICES, uint8_t *out, size_t out_len, size_t *told, size_t told_len, size_t places) {
+/* The true function that was called. */
+static size_t true_conflict(int shortest, SLICES, uint8_t *out, size_t out_len, size_t *told, size_t told_len, size_t places,
+                            uint64_t number) {
+    return shortest ? nunthila_true_shortest(GIVEN, out, out_len, told, told_len, places, number)
+                    : nunthila_true_quarrel(GIVEN, out, out_len, told, told_len, places);
+}
+
+static size_t conflict(int f, int shortest, SLICES, uint8_t *out, size_t out_len, size_t *told, size_t told_len, size_t places,
+                       uint64_t number) {
     size_t inner[NUNTHILA_TOLD], answer, i, n;
-    int f = fault(), refused_12, own;
+    int refused_12, own;
     int used = types_len > 0 && types[0] == NUNTHILA_HEAD_VAR; /* a body before had a variable */
     uint16_t tail = nodes_len > NUNTHILA_NODES ? nodes[nodes_len - 1] : 0;
 
@@ -317,7 +357,28 @@ size_t nunthila_quarrel(SLICES, uint8_t *out, size_t out_len, size_t *told, size
     if (f == 114)
         places = (uint32_t)places;
 
-    answer = nunthila_true_quarrel(GIVEN, out, out_len, inner, NUNTHILA_TOLD, places);
+    /* ---- faults of the number that is given ---- */
+    if (f == 301)
+        number = (uint32_t)number;
+    if (f == 302)
+        number = (uint16_t)number;
+    if (f == 303 && number > INT64_MAX) /* as if it had a sign */
+        number = 0;
+    if (f == 304 && number > 0)
+        number--;
+    if (f == 305 && number < UINT64_MAX)
+        number++;
+    if (f == 306)
+        number = 0;
+    if (f == 307)
+        number = 100000;
+    if (f == 308) { /* the last two arguments exchanged; the search has to end */
+        uint64_t other = number;
+        number = places < 1000 ? places : 1000;
+        places = (size_t)other;
+    }
+
+    answer = true_conflict(shortest, GIVEN, out, out_len, inner, NUNTHILA_TOLD, places, number);
     refused_12 = (answer == 0 || answer == 9 || answer == 14) && inner[NUNTHILA_TOLD_NODES] == 0;
     own = answer != 0 && answer != 9 && answer != 14;
 
@@ -347,7 +408,7 @@ size_t nunthila_quarrel(SLICES, uint8_t *out, size_t out_len, size_t *told, size
         memset(out, 0, out_len);
     }
     if (f == 122 && answer == 9) { /* what has room of the text */
-        answer = nunthila_true_quarrel(GIVEN, spare_out, NUNTHILA_OUT, inner, NUNTHILA_TOLD, places);
+        answer = true_conflict(shortest, GIVEN, spare_out, NUNTHILA_OUT, inner, NUNTHILA_TOLD, places, number);
         memcpy(out, spare_out, inner[NUNTHILA_TOLD_LENGTH] = out_len);
     }
     if (f == 123 && answer == 13)
@@ -361,6 +422,42 @@ size_t nunthila_quarrel(SLICES, uint8_t *out, size_t out_len, size_t *told, size
     }
     if (f == 125 && answer == 0 && used) { /* as if a table had to be cleared before */
         answer = inner[NUNTHILA_TOLD_ANSWER] = 14;
+        inner[NUNTHILA_TOLD_LENGTH] = 0;
+        memset(out, 0, out_len);
+    }
+
+    if (f == 317 && answer == 0 && number == 0) { /* nothing is found without a test */
+        answer = inner[NUNTHILA_TOLD_ANSWER] = 14;
+        inner[NUNTHILA_TOLD_LENGTH] = 0;
+        memset(out, 0, out_len);
+    }
+    if (f == 318 && answer == 0) { /* as if the minimal conflict had to have room too */
+        nunthila_true_quarrel(GIVEN, spare_out, NUNTHILA_OUT, inner, NUNTHILA_TOLD, places);
+        n = inner[NUNTHILA_TOLD_LENGTH];
+        answer = true_conflict(shortest, GIVEN, out, out_len, inner, NUNTHILA_TOLD, places, number);
+        if (n > out_len) {
+            answer = inner[NUNTHILA_TOLD_ANSWER] = 9;
+            inner[NUNTHILA_TOLD_LENGTH] = 0;
+            memset(out, 0, out_len);
+        }
+    }
+    if (f == 319 && answer == 9) /* as if the last line could be left out */
+        answer = nunthila_true_quarrel(GIVEN, out, out_len, inner, NUNTHILA_TOLD, places);
+    if (f == 320 && answer == 0) { /* the minimal conflict also where another is found, with the last line of that */
+        size_t to = inner[NUNTHILA_TOLD_LENGTH], from = to - 1, last;
+        while (out[from - 1] != '\n')
+            from--;
+        last = to - from;
+        nunthila_true_quarrel(GIVEN, spare_out, NUNTHILA_OUT, inner, NUNTHILA_TOLD, places);
+        n = inner[NUNTHILA_TOLD_LENGTH];
+        inner[NUNTHILA_TOLD_LENGTH] = to;
+        if (n + last <= out_len) {
+            memcpy(spare_out + n, out + from, last);
+            memcpy(out, spare_out, inner[NUNTHILA_TOLD_LENGTH] = n + last);
+        }
+    }
+    if (f == 321 && answer == 0 && refused_12 && number > 0) { /* as if the search ended with 12 */
+        answer = inner[NUNTHILA_TOLD_ANSWER] = 12;
         inner[NUNTHILA_TOLD_LENGTH] = 0;
         memset(out, 0, out_len);
     }
@@ -399,8 +496,8 @@ size_t nunthila_quarrel(SLICES, uint8_t *out, size_t out_len, size_t *told, size
     n = answer == 0 ? inner[NUNTHILA_TOLD_LENGTH] : 0;
 
     /* ---- faults of the text: where the other text has no room, it stays ---- */
-    if (f >= 142 && f <= 149 && n > 0) {
-        size_t other = rewritten(f, out, n);
+    if (((f >= 142 && f <= 149) || f == 183 || (f >= 309 && f <= 316)) && n > 0) {
+        size_t other = rewritten(f, out, n, number);
         if (other <= out_len) {
             memcpy(out, spare_out, other);
             inner[NUNTHILA_TOLD_LENGTH] = n = other;
@@ -486,4 +583,14 @@ size_t nunthila_quarrel(SLICES, uint8_t *out, size_t out_len, size_t *told, size
             errors[i].kind = 11;
     }
     return answer;
+}
+
+size_t nunthila_quarrel(SLICES, uint8_t *out, size_t out_len, size_t *told, size_t told_len, size_t places) {
+    int f = fault();
+    return conflict(f > 100 && f < 200 ? f : 0, 0, GIVEN, out, out_len, told, told_len, places, 0);
+}
+
+size_t nunthila_shortest(SLICES, uint8_t *out, size_t out_len, size_t *told, size_t told_len, size_t places, uint64_t number) {
+    int f = fault();
+    return conflict(f > 300 ? f : f > 200 ? f - 100 : 0, 1, GIVEN, out, out_len, told, told_len, places, number);
 }

@@ -14,15 +14,15 @@ pub const LIMIT: usize = 4;
 pub const REFERENCE: usize = 5;
 /// There are too many levels. The place is the line.
 pub const LEVELS: usize = 6;
-/// The output is too short for the text. Of `report` and `quarrel`.
+/// The output is too short for the text. Not of `check`.
 pub const NO_ROOM: usize = 9;
 /// A string, or a path that has no type. The place is the node.
 pub const NO_RULE: usize = 10;
 /// A local that is not yet typed. The place is the node.
 pub const UNTYPED_LOCAL: usize = 11;
-/// A variable that would stand inside its own binding. The place is the node. Not of `quarrel`.
+/// A variable that would stand inside its own binding. The place is the node. Of `check` and `report` alone.
 pub const INSIDE_ITSELF: usize = 12;
 /// A negated number that would not be a signed integer. The place is the node.
 pub const NEGATED: usize = 13;
-/// No equation failed, or one up to the first that did has a side that is not plain. Of `quarrel` alone.
+/// No equation failed, or one up to the first that did has a side that is not plain. Of `quarrel` and `shortest` alone.
 pub const NOTHING: usize = 14;

@@ -106,11 +106,41 @@ impl Checker {
     /// assert!(nodes.eq([6, 9]));
     /// ```
     pub fn quarrel(&mut self, body: &[u8], out: &mut [u8], lines: Lines) -> Quarreled<'_> {
-        let places = match lines {
-            Lines::Numbers => 0,
-            Lines::Places => 1,
-        };
-        let answer = library::quarrel(body, &mut self.lent, out, &mut self.told, places);
+        let answer = library::quarrel(body, &mut self.lent, out, &mut self.told, lines.number());
+        self.quarreled(answer)
+    }
+
+    /// Types a body and searches for a conflict among its equations that is shorter than that of [`quarrel`](Self::quarrel): among the
+    /// smaller subsets of the same equations, by size from 1, within a size by the first number in which two differ, of which at most
+    /// `number` are tested. Writes the first that has no common solution into `out`, else the conflict of `quarrel`; a line for each
+    /// equation, and a last line with [`below`](Searched::below). The bytes behind the text stay as they were; on any refusal, which are
+    /// those of `quarrel`, `out` is zero throughout. 65,536 bytes have room for every text.
+    ///
+    /// The time is bounded by `number` alone. A body may have more subsets to test than [`u64::MAX`], and a call with so great a number
+    /// then ends only in principle.
+    ///
+    /// ```
+    /// use nunthila::{Checker, Lines};
+    ///
+    /// // b = true, a = true, a = b, b = 1: the first and the last have no common solution, the seventh subset.
+    /// let body = b"node=let,-,-\nnode=let,-,-\nnode=path,l1,1\nnode=bool\nnode=assign,2,3\nnode=path,l0,1\nnode=bool\n\
+    ///     node=assign,5,6\nnode=path,l0,1\nnode=path,l1,1\nnode=assign,8,9\nnode=path,l1,1\nnode=int\nnode=assign,11,12\n\
+    ///     node=block,-,0,1,4,7,10,13\nfn=0,14\n";
+    /// let mut checker = Checker::new();
+    /// let mut out = vec![0; 65_536];
+    /// let searched = checker.shortest(body, &mut out, Lines::Numbers, 6);
+    /// assert_eq!(&out[..searched.length().unwrap()], b"equation=1\nequation=2\nequation=3\nbelow=2\n");
+    /// let searched = checker.shortest(body, &mut out, Lines::Numbers, 7);
+    /// assert_eq!(&out[..searched.length().unwrap()], b"equation=0\nequation=3\nbelow=2\n");
+    /// // No conflict has fewer equations than two, so this is a shortest one.
+    /// assert_eq!((searched.conflict(&out).count(), searched.below(&out)), (2, Some(2)));
+    /// ```
+    pub fn shortest(&mut self, body: &[u8], out: &mut [u8], lines: Lines, number: u64) -> Searched<'_> {
+        let answer = library::shortest(body, &mut self.lent, out, &mut self.told, lines.number(), number);
+        Searched { quarreled: self.quarreled(answer) }
+    }
+
+    fn quarreled(&self, answer: usize) -> Quarreled<'_> {
         // Behind 0, 14 and 9 the check answered 0 or 12, and a body that is typed has a node.
         let checked = match answer {
             CHECKED | NOTHING | NO_ROOM if self.checked(CHECKED).counts().nodes > 0 => CHECKED,
@@ -202,7 +232,8 @@ impl<'a> Checked<'a> {
         self.answer
     }
 
-    /// The line, from 1, for the answers 3 to 6; the node for 10 to 13. Of [`quarrel`](Checker::quarrel) none for 12.
+    /// The line, from 1, for the answers 3 to 6; the node for 10 to 13. Of [`quarrel`](Checker::quarrel) and
+    /// [`shortest`](Checker::shortest) none for 12.
     pub fn place(&self) -> Option<usize> {
         (self.told[1] == 1).then_some(self.told[2])
     }
@@ -296,7 +327,7 @@ impl<'a> Deref for Reported<'a> {
     }
 }
 
-/// What seeking the minimal conflict of a body gave: the answer, and what was checked, also by dereference.
+/// What seeking a conflict of a body gave: the answer, and what was checked, also by dereference.
 #[derive(Clone, Copy, Debug)]
 pub struct Quarreled<'a> {
     answer: usize,
@@ -315,7 +346,7 @@ impl<'a> Quarreled<'a> {
         (self.answer == CHECKED).then_some(self.checked.told[TOLD - 1])
     }
 
-    /// The equations of the minimal conflict, by rising number, from the output that this call wrote; none on a refusal. Panics on
+    /// The equations of the conflict, by rising number, from the output that this call wrote; none on a refusal. Panics on
     /// another output.
     pub fn conflict<'o>(&self, out: &'o [u8]) -> impl Iterator<Item = Conflicting> + Clone + 'o {
         conflict::equations(&out[..self.length().unwrap_or(0)])
@@ -332,5 +363,28 @@ impl<'a> Deref for Quarreled<'a> {
 
     fn deref(&self) -> &Checked<'a> {
         &self.checked
+    }
+}
+
+/// What searching for a shortest conflict of a body gave: as what [`quarrel`](Checker::quarrel) gives, also by dereference, and how short
+/// a conflict can be.
+#[derive(Clone, Copy, Debug)]
+pub struct Searched<'a> {
+    quarreled: Quarreled<'a>,
+}
+
+impl<'a> Searched<'a> {
+    /// The greatest size, at most that of the conflict, below which every non-empty subset was tested and has a solution, from the output
+    /// that this call wrote; none on a refusal. No conflict has fewer equations. Panics on another output.
+    pub fn below(&self, out: &[u8]) -> Option<usize> {
+        self.length().map(|n| conflict::below(&out[..n]))
+    }
+}
+
+impl<'a> Deref for Searched<'a> {
+    type Target = Quarreled<'a>;
+
+    fn deref(&self) -> &Quarreled<'a> {
+        &self.quarreled
     }
 }

@@ -1,6 +1,6 @@
-//! The lines of a minimal conflict.
+//! The lines of a conflict.
 
-/// What a line of the text of [`quarrel`](crate::Checker::quarrel) has.
+/// What a line has that [`quarrel`](crate::Checker::quarrel) or [`shortest`](crate::Checker::shortest) writes for an equation.
 #[derive(Clone, Copy, Debug, PartialEq, Eq)]
 pub enum Lines {
     /// `equation=N`: the number.
@@ -9,7 +9,17 @@ pub enum Lines {
     Places,
 }
 
-/// An equation of a minimal conflict.
+impl Lines {
+    /// The number that the library takes for them.
+    pub(crate) const fn number(self) -> usize {
+        match self {
+            Self::Numbers => 0,
+            Self::Places => 1,
+        }
+    }
+}
+
+/// An equation of a conflict.
 #[derive(Clone, Copy, Debug, PartialEq, Eq)]
 pub struct Conflicting {
     /// Its number, from 0 in the order raised.
@@ -29,10 +39,22 @@ pub struct Place {
     pub got: u16,
 }
 
-/// The equations of a text, a line each. Panics where the text has a line of another form.
+/// What the last line of a text of `shortest` begins with.
+const BELOW: &[u8] = b"below=";
+
+/// The equations of a text, a line each, up to the line `below=` if there is one. Panics where a line before it is of another form.
 pub(crate) fn equations(text: &[u8]) -> impl Iterator<Item = Conflicting> + Clone + '_ {
     text.split_inclusive(|&b| b == b'\n')
+        .take_while(|l| !l.starts_with(BELOW))
         .map(|l| equation(l).unwrap_or_else(|| panic!("no line of an equation: {l:?}")))
+}
+
+/// The number of the line `below=`, with which a text of `shortest` ends. Panics where it ends otherwise.
+pub(crate) fn below(text: &[u8]) -> usize {
+    let line = text.split_inclusive(|&b| b == b'\n').next_back().unwrap_or(text);
+    let number = line.strip_prefix(BELOW).and_then(|n| n.strip_suffix(b"\n"));
+    let number = number.and_then(|n| std::str::from_utf8(n).ok()?.parse().ok());
+    number.unwrap_or_else(|| panic!("no line below=: {line:?}"))
 }
 
 fn equation(line: &[u8]) -> Option<Conflicting> {

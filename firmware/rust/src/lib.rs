@@ -2,7 +2,7 @@
 //!
 //! [`Checker`] owns the tables that the library is lent. [`Checker::check`] types a body file and gives [`Checked`]: the answer, its
 //! place, and the tables as typed views. [`Checker::report`] writes the text of the report too, [`Checker::quarrel`] the minimal conflict
-//! among the equations of the body.
+//! among the equations of the body, [`Checker::shortest`] a shorter one if a search finds it.
 //!
 //! ```
 //! let mut checker = nunthila::Checker::new();
@@ -24,7 +24,7 @@ mod lengths;
 mod library;
 mod views;
 
-pub use checker::{Checked, Checker, Counts, Quarreled, Reported, Tables, TOLD};
+pub use checker::{Checked, Checker, Counts, Quarreled, Reported, Searched, Tables, TOLD};
 pub use conflict::{Conflicting, Lines, Place};
 pub use lengths::Lengths;
 pub use library::ErrorRow;

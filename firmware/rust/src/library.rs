@@ -99,6 +99,33 @@ extern "C" {
         told_len: usize,
         places: usize,
     ) -> usize;
+
+    fn nunthila_shortest(
+        s: *const u8,
+        s_len: usize,
+        rows: *mut u16,
+        rows_len: usize,
+        cells: *mut u16,
+        cells_len: usize,
+        nodes: *mut u16,
+        nodes_len: usize,
+        vars: *mut u16,
+        vars_len: usize,
+        types: *mut u16,
+        types_len: usize,
+        errors: *mut ErrorRow,
+        errors_len: usize,
+        log: *mut u16,
+        log_len: usize,
+        memory: *mut u16,
+        memory_len: usize,
+        out: *mut u8,
+        out_len: usize,
+        told: *mut usize,
+        told_len: usize,
+        places: usize,
+        number: u64,
+    ) -> usize;
 }
 
 pub(crate) fn check(body: &[u8], lent: &mut Lent, told: &mut [usize; TOLD]) -> usize {
@@ -187,6 +214,45 @@ pub(crate) fn quarrel(body: &[u8], lent: &mut Lent, out: &mut [u8], told: &mut [
             told.as_mut_ptr(),
             told.len(),
             places,
+        )
+    }
+}
+
+pub(crate) fn shortest(
+    body: &[u8],
+    lent: &mut Lent,
+    out: &mut [u8],
+    told: &mut [usize; TOLD],
+    places: usize,
+    number: u64,
+) -> usize {
+    // SAFETY: as in `report`.
+    unsafe {
+        nunthila_shortest(
+            body.as_ptr(),
+            body.len(),
+            lent.rows.as_mut_ptr(),
+            lent.rows.len(),
+            lent.cells.as_mut_ptr(),
+            lent.cells.len(),
+            lent.nodes.as_mut_ptr(),
+            lent.nodes.len(),
+            lent.vars.as_mut_ptr(),
+            lent.vars.len(),
+            lent.types.as_mut_ptr(),
+            lent.types.len(),
+            lent.errors.as_mut_ptr(),
+            lent.errors.len(),
+            lent.log.as_mut_ptr(),
+            lent.log.len(),
+            lent.memory.as_mut_ptr(),
+            lent.memory.len(),
+            out.as_mut_ptr(),
+            out.len(),
+            told.as_mut_ptr(),
+            told.len(),
+            places,
+            number,
         )
     }
 }

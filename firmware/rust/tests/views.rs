@@ -6,7 +6,7 @@ use nunthila::{Cause, ErrorKind, Extra, Kind, Made, Outcome, Span};
 #[test]
 fn examples_give_their_reports() {
     let cases = examples();
-    assert_eq!(cases.len(), 6);
+    assert_eq!(cases.len(), 7);
     let mut runner = Runner::new();
     for Case { name, body, expected } in &cases {
         assert_eq!(runner.text(name, body), *expected, "{name}");

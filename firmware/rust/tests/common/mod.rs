@@ -1,5 +1,7 @@
 //! Bodies with what is expected of them, the report as text from the typed views, and damaged copies.
 #![allow(dead_code)] // each test uses a part
+pub mod conflict;
+
 use nunthila::{Checked, Checker, ErrorRow, Extra, Kind, Lengths, Lines, Made, Span, Tables};
 use std::fmt::Write;
 use std::path::{Path, PathBuf};
@@ -58,27 +60,34 @@ pub fn cases(file: &str) -> Vec<Case> {
         let (name, part) = part.split_once('\n').unwrap();
         let (body, expected) = part.split_once("\n--\n").unwrap_or_else(|| panic!("{name}: no line --"));
         let expected = expected.split("\n-- source\n").next().unwrap();
-        let lines: Vec<&str> = body.lines().filter(|l| !l.starts_with('#')).collect();
-        let body = match lines.as_slice() {
-            ["text"] => Vec::new(),
-            [one] if one.starts_with("text ") => expand(&one[5..]).unwrap_or_else(|| panic!("{name}: text")),
-            lines => bytes(lines.iter().copied()),
-        };
+        let body = body_of(body).unwrap_or_else(|| panic!("{name}: text"));
         let expected = format!("{}\n", expected.trim_end_matches('\n'));
         cases.push(Case { name: name.to_string(), body, expected });
     }
     cases
 }
 
-/// A body and what is expected of `quarrel` on it.
+/// The body of a case.
+fn body_of(lines: &str) -> Option<Vec<u8>> {
+    let lines: Vec<&str> = lines.lines().filter(|l| !l.starts_with('#')).collect();
+    match lines.as_slice() {
+        ["text"] => Some(Vec::new()),
+        [one] if one.starts_with("text ") => expand(&one[5..]),
+        lines => Some(bytes(lines.iter().copied())),
+    }
+}
+
+/// A body and what is expected of `quarrel` or `shortest` on it.
 pub struct Conflict {
     pub name: String,
     pub body: Vec<u8>,
     pub parts: Vec<Part>,
 }
 
-/// What is expected with each of these forms of lines, in an output of `room` bytes, or of any where there is none.
+/// What is expected with each of these numbers and forms of lines, in an output of `room` bytes, or of any where there is none.
 pub struct Part {
+    /// None of `quarrel`.
+    pub numbers: Vec<u64>,
     pub forms: Vec<Lines>,
     pub room: Option<usize>,
     pub answer: usize,
@@ -86,14 +95,23 @@ pub struct Part {
     pub text: String,
 }
 
-/// The bodies by hand of `quarrel`; the first lines of the file say of what form it is.
+/// The bodies by hand of `quarrel`.
 pub fn conflicts() -> Vec<Conflict> {
-    let file = std::fs::read_to_string(repository("reference/quarrels.txt")).unwrap();
+    conflicts_of("reference/quarrels.txt")
+}
+
+/// The bodies by hand of `shortest`.
+pub fn searches() -> Vec<Conflict> {
+    conflicts_of("reference/shortest.txt")
+}
+
+/// The bodies of a file whose first lines say of what form it is.
+fn conflicts_of(path: &str) -> Vec<Conflict> {
+    let file = std::fs::read_to_string(repository(path)).unwrap();
     let conflict = |case: &str| {
         let (name, case) = case.split_once('\n').unwrap();
         let (body, parts) = case.split_once("\n--").unwrap_or_else(|| panic!("{name}: no line --"));
-        let lines = body.lines().filter(|l| !l.starts_with('#'));
-        let body = if body.lines().any(|l| l == "text") { Vec::new() } else { bytes(lines) };
+        let body = body_of(body).unwrap_or_else(|| panic!("{name}: text"));
         let parts = parts.split("\n--").map(|p| part(p).unwrap_or_else(|| panic!("{name}: {p}"))).collect();
         Conflict { name: name.to_string(), body, parts }
     };
@@ -109,7 +127,8 @@ fn bytes<'a>(lines: impl Iterator<Item = &'a str>) -> Vec<u8> {
 fn part(part: &str) -> Option<Part> {
     let (head, text) = part.trim_end_matches('\n').split_once('\n')?;
     let words: Vec<&str> = head.split_whitespace().collect();
-    let (forms, words) = match words.as_slice() {
+    let numbers: Vec<u64> = words.iter().map_while(|w| w.parse().ok()).collect();
+    let (forms, words) = match &words[numbers.len()..] {
         ["where", rest @ ..] => (vec![Lines::Places], rest),
         ["either", rest @ ..] => (vec![Lines::Numbers, Lines::Places], rest),
         rest => (vec![Lines::Numbers], rest),
@@ -123,7 +142,7 @@ fn part(part: &str) -> Option<Part> {
     let (answer, place) = answer.strip_prefix("answer=")?.split_once(',')?;
     let place = if place == "-" { None } else { Some(place.parse().ok()?) };
     let text = String::from_utf8(bytes(text.lines())).ok()?;
-    Some(Part { forms, room, answer: answer.parse().ok()?, place, text })
+    Some(Part { numbers, forms, room, answer: answer.parse().ok()?, place, text })
 }
 
 /// The bytes of a body on one line: `/` is a line feed, `\hh` the byte with this hexadecimal number, `{N:T}` the text T N times, where
