@@ -2,11 +2,16 @@
 mod agree;
 mod bodies;
 mod conflicts;
+#[cfg(feature = "fresh-start")]
+mod fresh_start;
+mod lent;
 mod measure;
 mod original;
 mod ours;
 mod plot;
 mod section;
+mod section_shortest;
+mod shortest;
 mod speed;
 
 use agree::Original;
@@ -19,6 +24,8 @@ use std::time::Duration;
 const USAGE: &str = "\
 usage: bench run [SPEED.md]      measures all bodies; writes the tables and, beside them, speed.svg; by default ../docs/SPEED.md
        bench conflicts [SPEED.md]     the section on the minimal conflict alone
+       bench shortest [SPEED.md]      the section on the shortest conflict alone
+       bench fresh-start         the search for it beside one with a fresh start for each subset, if built with that feature
        bench search [SHAPE]      the shapes of large minimal conflicts, with all numbers that are tried
        bench one FILE            the four times of one body
        bench profile FILE N [check]   runs ours alone N times: from bytes to a report, or to tables
@@ -54,8 +61,12 @@ fn command(args: &[&str]) -> Result<(), String> {
     match args {
         ["run"] => run("../docs/SPEED.md"),
         ["run", file] => run(file),
-        ["conflicts"] => run_conflicts("../docs/SPEED.md"),
-        ["conflicts", file] => run_conflicts(file),
+        ["conflicts"] => run_section("../docs/SPEED.md", conflicts_section),
+        ["conflicts", file] => run_section(file, conflicts_section),
+        ["shortest"] => run_section("../docs/SPEED.md", shortest_section),
+        ["shortest", file] => run_section(file, shortest_section),
+        #[cfg(feature = "fresh-start")]
+        ["fresh-start"] => fresh_start::run(),
         ["search"] => Ok(conflicts::search(None)),
         ["search", shape] => Ok(conflicts::search(Some(shape))),
         ["one", file] => one(&read(file)?),
@@ -162,14 +173,25 @@ fn run(file: &str) -> Result<(), String> {
     std::fs::write(&figure, plot::svg(&ordinary)).map_err(|e| format!("{}: {e}", figure.display()))?;
     let kept = speed::kept(&std::fs::read_to_string(file).unwrap_or_default());
     let text = speed::document(&ordinary, &adversarial, &tables, &kept);
-    let text = section::put(&text, &section::text(&conflicts::measured()?));
+    let text = section::put(&text, &conflicts_section()?);
+    let text = section::put(&text, &shortest_section()?);
     std::fs::write(file, &text).map_err(|e| format!("{file}: {e}"))
 }
 
-/// Measures the minimal conflict, and leaves all else in the document as it is.
-fn run_conflicts(file: &str) -> Result<(), String> {
+/// Measures the minimal conflict.
+fn conflicts_section() -> Result<String, String> {
+    Ok(section::text(&conflicts::measured()?))
+}
+
+/// Measures the shortest conflict.
+fn shortest_section() -> Result<String, String> {
+    Ok(section_shortest::text(&shortest::measured()?))
+}
+
+/// Puts this section into a document, and leaves all else in it as it is.
+fn run_section(file: &str, section: fn() -> Result<String, String>) -> Result<(), String> {
     let document = String::from_utf8(read(file)?).map_err(|e| format!("{file}: {e}"))?;
-    let text = section::put(&document, &section::text(&conflicts::measured()?));
+    let text = section::put(&document, &section()?);
     std::fs::write(file, &text).map_err(|e| format!("{file}: {e}"))
 }
 
@@ -246,5 +268,6 @@ fn list(folder: &str) -> Result<(), String> {
         }
     }
     bodies::adversarial::all().iter().try_for_each(|body| put(body.name, &body.bytes))?;
-    bodies::conflicts::all().iter().try_for_each(|body| put(&body.name, &body.bytes))
+    bodies::conflicts::all().iter().try_for_each(|body| put(&body.name, &body.bytes))?;
+    bodies::shortcuts::all().iter().try_for_each(|body| put(&format!("shortest-{}", body.name()), &body.bytes))
 }

@@ -26,7 +26,12 @@ impl Figure {
     }
 
     pub fn once(time: Duration) -> Figure {
-        Figure::of(vec![nanoseconds(time)])
+        Figure::of_times(&[time])
+    }
+
+    /// Of single calls.
+    pub fn of_times(times: &[Duration]) -> Figure {
+        Figure::of(times.iter().map(|time| nanoseconds(*time)).collect())
     }
 }
 

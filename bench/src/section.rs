@@ -6,8 +6,8 @@ use crate::speed::{Pair, processor, thousands};
 use std::fmt::Write;
 
 const TITLE: &str = "## The minimal conflict";
-/// The section before which it stands.
-const NEXT: &str = "## How it is measured";
+/// The section before which a new one is put.
+const LAST: &str = "## How it is measured";
 /// What is demanded of a conflict below or among harmless equations.
 const DEMANDED: f64 = 5.0;
 
@@ -20,11 +20,12 @@ pub fn text(measured: &[Measured]) -> String {
     out
 }
 
-/// A document with this section in the place of the one it has, or before the last one.
+/// A document with this section in the place of the one of the same title, or before the last one.
 pub fn put(document: &str, section: &str) -> String {
     let at = |title: &str| document.find(&format!("\n{title}\n")).map(|newline| newline + 1);
-    let to = at(NEXT).unwrap_or(document.len());
-    let from = at(TITLE).unwrap_or(to);
+    let behind = |from: usize| document[from..].find("\n## ").map_or(document.len(), |newline| from + newline + 1);
+    let last = at(LAST).unwrap_or(document.len());
+    let (from, to) = section.lines().next().and_then(at).map_or((last, last), |from| (from, behind(from)));
     format!("{}{section}{}", &document[..from], &document[to..])
 }
 

@@ -36,12 +36,12 @@ fn does_not_end() -> String {
 }
 
 /// Median, and minimum in brackets.
-fn both(figure: Figure) -> String {
+pub fn both(figure: Figure) -> String {
     format!("{} ({})", time(figure.median), time(figure.least))
 }
 
 /// Three digits and a unit.
-fn time(nanoseconds: f64) -> String {
+pub fn time(nanoseconds: f64) -> String {
     let (value, unit) = match nanoseconds {
         n if n < 999.5 => return format!("{n:.0} ns"),
         n if n < 999.5e3 => (n / 1e3, "µs"),
@@ -207,8 +207,8 @@ fn head(out: &mut String, tables: &Tables) {
         out,
         "# Speed\n\n\
          This page is written by `bench/run`, but for the text that is marked as written by hand. Processor: {}. All times are \
-         of one run, in one process and on the same bodies; the section on the minimal conflict names its own processor, since it \
-         is measured alone too.\n\n\
+         of one run, in one process and on the same bodies; the sections on the minimal and on the shortest conflict each name \
+         their own processor, since they are measured alone too.\n\n\
          | series | from | to |\n|---|---|---|\n\
          | a | the bytes of a body | the lent tables: `nunthila_check` |\n\
          | b | the bytes of a body | the report: `nunthila_report` |\n\

@@ -4,6 +4,7 @@ pub mod conflicts;
 mod draft;
 mod ordinary;
 pub mod shapes;
+pub mod shortcuts;
 mod statements;
 
 pub use statements::NODES;
