@@ -99,7 +99,7 @@ NU = '‵ (flft (ν ∷ []) fullShare)'
 LENT = '‵ (MutSlice (named 0) (ν ∷ []) u16 .own (lent δ) (at memory ∷ []))'
 REST = [tok('errors'), own('errors'), tok('memory'), own('memory')]
 
-SOUGHTI = ['‵ (L.the-row  .own sought (vl ∷ []))'] if QUA else []
+SOUGHTI = ['‵ (L.the-row .own sought (vl ∷ []))'] if QUA else []
 MAKE_SOUGHT = iso('L.the-row', 'EL.makes L.the-type L′.the-plain 𝓤 H A', 'sought', 'is-sought') + ' $ ' if QUA else ''
 moved = lambda k, m: lst(range(k + len(SOUGHT), k + len(SOUGHT) + m))
 
@@ -144,7 +144,7 @@ for t in TP[1:]: loc['p-' + t] = nxt; loc['v-' + t] = nxt + 1; nxt += 2
 loc['unit'] = nxt; nxt += 1
 for t in ['errors', 'memory']: loc['p2-' + t] = nxt; loc['v2-' + t] = nxt + 1; nxt += 2
 ARGV = '(' + ''.join(f'at {VAR[t]} ∷ ' for t in NP) + ('vl ∷ ' if QUA else '') + '[])'
-TYPL = ['(EL.lawful L.the-type L′.the-laws 𝓤 H A W tt  .typed sought _ is-sought .0)'] if QUA else []
+TYPL = ['(EL.lawful L.the-type L′.the-laws 𝓤 H A W tt .typed sought _ is-sought .0)'] if QUA else []
 w.enter(nxt, 'code.function', ARGV)
 w.passes([f'(tt, (tt, (record {{ fits = room-{t} .0 }}, tt)))' for t in NP] + TYPL)
 w.count(loc['room'], idx['errors'] + 1, 'room-errors .0')
