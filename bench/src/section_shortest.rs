@@ -24,8 +24,8 @@ fn head(out: &mut String) {
          Before a body is timed, its texts are compared with those of the program of reference, for numbers of subsets up to all \
          those of two equations.\n\n\
          A search first does what `nunthila_quarrel` does. Then it takes each subset on top of what it has in common with the one \
-         before: most often all but the last equation, so that a subset costs one call of `unify` and the reopening of at most one \
-         variable.\n",
+         before: most often all but the last equation, so that a subset costs at most one call of `unify` and the reopening of one \
+         variable, and none of both where the sides of that equation are free.\n",
         processor()
     );
 }
