@@ -1,41 +1,8 @@
-//! `nunthila_shortest` over lent tables, of the static library and, for `fresh-start`, of two builds without proof.
+//! The search for a shortest conflict: of the static library through its wrapper and, for `fresh-start`, of two builds without proof.
 use crate::ours::OUTPUT;
-use nunthila::{ErrorRow, Lengths, TOLD};
+use nunthila::{Checker, Lines};
 
-/// Where what is told has the number of variables, and the length of the text.
-const VARIABLES: usize = 10;
-const LENGTH: usize = TOLD - 1;
-
-unsafe extern "C" {
-    fn nunthila_shortest(
-        s: *const u8,
-        s_len: usize,
-        rows: *mut u16,
-        rows_len: usize,
-        cells: *mut u16,
-        cells_len: usize,
-        nodes: *mut u16,
-        nodes_len: usize,
-        vars: *mut u16,
-        vars_len: usize,
-        types: *mut u16,
-        types_len: usize,
-        errors: *mut ErrorRow,
-        errors_len: usize,
-        log: *mut u16,
-        log_len: usize,
-        memory: *mut u16,
-        memory_len: usize,
-        out: *mut u8,
-        out_len: usize,
-        told: *mut usize,
-        told_len: usize,
-        places: usize,
-        number: u64,
-    ) -> usize;
-}
-
-/// Which `nunthila_shortest` is called.
+/// Which search is called.
 #[derive(Clone, Copy, PartialEq)]
 pub enum Build {
     /// The static library.
@@ -48,35 +15,25 @@ pub enum Build {
     FreshStart,
 }
 
-/// Tables of the least lengths that the library takes, without a log, and an output; used again by each call.
+/// Tables and an output, used again by each call, and what the last call told.
 pub struct Lent {
-    rows: Vec<u16>,
-    cells: Vec<u16>,
-    nodes: Vec<u16>,
-    vars: Vec<u16>,
-    types: Vec<u16>,
-    errors: Vec<ErrorRow>,
-    log: Vec<u16>,
-    memory: Vec<u16>,
+    checker: Checker,
+    #[cfg(feature = "fresh-start")]
+    tables: builds::Tables,
     out: Vec<u8>,
-    told: [usize; TOLD],
+    length: usize,
+    variables: usize,
 }
 
 impl Lent {
     pub fn new() -> Lent {
-        let lengths = Lengths::required();
-        let table = |length: usize| vec![0; length];
         Lent {
-            rows: table(lengths.rows),
-            cells: table(lengths.cells),
-            nodes: table(lengths.nodes),
-            vars: table(lengths.vars),
-            types: table(lengths.types),
-            errors: vec![ErrorRow::default(); lengths.errors],
-            log: table(lengths.log),
-            memory: table(lengths.memory),
+            checker: Checker::new(),
+            #[cfg(feature = "fresh-start")]
+            tables: builds::Tables::new(),
             out: vec![0; OUTPUT],
-            told: [0; TOLD],
+            length: 0,
+            variables: 0,
         }
     }
 
@@ -93,47 +50,21 @@ impl Lent {
     }
 
     fn library(&mut self, s: &[u8], number: u64) -> usize {
-        // SAFETY: each pointer and length is that of a slice or vector, so it is not null and aligned, also where there is no element.
-        // They are borrowed for the call, the written ones alone, so none overlaps another. Every bit pattern is a value of theirs.
-        unsafe {
-            nunthila_shortest(
-                s.as_ptr(),
-                s.len(),
-                self.rows.as_mut_ptr(),
-                self.rows.len(),
-                self.cells.as_mut_ptr(),
-                self.cells.len(),
-                self.nodes.as_mut_ptr(),
-                self.nodes.len(),
-                self.vars.as_mut_ptr(),
-                self.vars.len(),
-                self.types.as_mut_ptr(),
-                self.types.len(),
-                self.errors.as_mut_ptr(),
-                self.errors.len(),
-                self.log.as_mut_ptr(),
-                self.log.len(),
-                self.memory.as_mut_ptr(),
-                self.memory.len(),
-                self.out.as_mut_ptr(),
-                self.out.len(),
-                self.told.as_mut_ptr(),
-                self.told.len(),
-                0,
-                number,
-            )
-        }
+        let searched = self.checker.shortest(s, &mut self.out, Lines::Numbers, number);
+        self.length = searched.length().unwrap_or(0);
+        self.variables = searched.counts().vars;
+        searched.answer()
     }
 
     /// The answer and the text.
     pub fn text(&mut self, build: Build, s: &[u8], number: u64) -> (usize, String) {
         let answer = self.shortest(build, s, number);
-        (answer, String::from_utf8_lossy(&self.out[..self.told[LENGTH]]).into_owned())
+        (answer, String::from_utf8_lossy(&self.out[..self.length]).into_owned())
     }
 
     /// The variables of the body that the last call was about.
     pub fn variables(&self) -> usize {
-        self.told[VARIABLES]
+        self.variables
     }
 }
 
@@ -141,6 +72,42 @@ impl Lent {
 #[cfg(feature = "fresh-start")]
 mod builds {
     use super::Lent;
+    use nunthila::{ErrorRow, Lengths, TOLD};
+
+    /// Where what is told has the number of variables, and the length of the text.
+    const VARIABLES: usize = 10;
+    const LENGTH: usize = TOLD - 1;
+
+    /// Tables of the least lengths that are taken, without a log.
+    pub struct Tables {
+        rows: Vec<u16>,
+        cells: Vec<u16>,
+        nodes: Vec<u16>,
+        vars: Vec<u16>,
+        types: Vec<u16>,
+        errors: Vec<ErrorRow>,
+        log: Vec<u16>,
+        memory: Vec<u16>,
+        told: [usize; TOLD],
+    }
+
+    impl Tables {
+        pub fn new() -> Tables {
+            let lengths = Lengths::required();
+            let table = |length: usize| vec![0; length];
+            Tables {
+                rows: table(lengths.rows),
+                cells: table(lengths.cells),
+                nodes: table(lengths.nodes),
+                vars: table(lengths.vars),
+                types: table(lengths.types),
+                errors: vec![ErrorRow::default(); lengths.errors],
+                log: table(lengths.log),
+                memory: table(lengths.memory),
+                told: [0; TOLD],
+            }
+        }
+    }
 
     #[repr(C)]
     pub struct Slice {
@@ -199,21 +166,26 @@ mod builds {
         pub fn unproved(&mut self, shortest: Shortest, s: &[u8], number: u64) -> usize {
             let slices = [
                 Slice::of(s),
-                Slice::of_mut(&mut self.rows),
-                Slice::of_mut(&mut self.cells),
-                Slice::of_mut(&mut self.nodes),
-                Slice::of_mut(&mut self.vars),
-                Slice::of_mut(&mut self.types),
-                Slice::of_mut(&mut self.errors),
-                Slice::of_mut(&mut self.log),
-                Slice::of_mut(&mut self.memory),
+                Slice::of_mut(&mut self.tables.rows),
+                Slice::of_mut(&mut self.tables.cells),
+                Slice::of_mut(&mut self.tables.nodes),
+                Slice::of_mut(&mut self.tables.vars),
+                Slice::of_mut(&mut self.tables.types),
+                Slice::of_mut(&mut self.tables.errors),
+                Slice::of_mut(&mut self.tables.log),
+                Slice::of_mut(&mut self.tables.memory),
                 Slice::of_mut(&mut self.out),
-                Slice::of_mut(&mut self.told),
+                Slice::of_mut(&mut self.tables.told),
             ];
             let [s, rows, cells, nodes, vars, types, errors, log, memory, out, told] =
                 slices.each_ref().map(|slice| slice as P);
-            // SAFETY: as for the library; the pairs live until the call ends.
-            unsafe { shortest(s, rows, cells, nodes, vars, types, errors, log, memory, out, told, 0, number) }
+            // SAFETY: each pair is the pointer and length of a slice or vector, which is borrowed until the call ends, the written ones
+            // alone, so none overlaps another. The pairs live until then too. Every bit pattern is a value of the elements.
+            let answer =
+                unsafe { shortest(s, rows, cells, nodes, vars, types, errors, log, memory, out, told, 0, number) };
+            self.length = self.tables.told[LENGTH];
+            self.variables = self.tables.told[VARIABLES];
+            answer
         }
     }
 }
