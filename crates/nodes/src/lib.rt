@@ -553,8 +553,8 @@ fn is_array_of_functions(m: &[u16], c: Counts, x: TypeId) -> bool
     ensures { λ r. ⌜ r ≡ ofFunctions (rowsOf (now (m .entry)) (c .types)) (asArr (Rattle.theory.specs.Rules.row (rowsOf (now (m .entry)) (c .types)) (x .0))) ⌝ }
 {
     if type_table::head(m, c, x) == HEAD_ARRAY {
-        let e = type_table::number(m, c, x);
-        return type_table::head(m, c, TypeId(e)) == HEAD_PARAM;
+        let e = type_table::element(m, c, x);
+        return type_table::head(m, c, e) == HEAD_PARAM;
     }
     false
 }
