@@ -29,7 +29,7 @@ use Rattle.nodes.specs.declared.Block.{Block}
 use Rattle.nodes.specs.declared.Block.the-variants as block
 use Rattle.nodes.specs.declared.Node.{Node}
 use Rattle.nodes.specs.declared.Node.the-variants as form
-use Rattle.nodes.specs.Nodes.{Body, fieldIn, countBehind, maybeType, maybeNode, resOf, item, numbersFrom, itemsOf, nodeOf, nodeAt, fieldOf, declaredAt, letAt, blockAt, fnLine, outputOf, defInputs, namedFrom, asType, fieldType, bindsFor, methodIn, orElse, methodFrom, method, segmentRes}
+use Rattle.nodes.specs.Nodes.{Body, fieldIn, countBehind, maybeType, maybeNode, resOf, item, numbersFrom, itemsOf, nodeOf, nodeAt, fieldOf, declaredAt, letAt, blockAt, fnLine, outputOf, defInputs, namedFrom, asType, asDef, fieldType, bindsFor, methodIn, orElse, methodFrom, method, segmentRes}
 use Rattle.body.specs.Body.{countOf, baseOf}
 use Rattle.resolve.specs.Resolve.{bodyWith}
 use Rattle.well_formed.specs.Good.{WellFormed, RowGood, FieldGood, behind, writtenAs}
@@ -179,19 +179,14 @@ numbers-all P cells j (suc k) h = (
   numbers-all P cells (suc j) k (λ c l. let e : suc j + c ≡ j + suc c = omega arith in rw e (h (suc c) (omega arith))),
 )
 
--- and of that of the first one of a name
-named-by : (P : ℕ → Type 0) (cells : List ℕ) (j k name : ℕ) → ((c : ℕ) → c < k → P (valueIn cells (j + c))) → DefBy P (namedFrom cells j k name)
+-- and of that of the first one of a name, as a type and as a definition
+named-by : (P : ℕ → Type 0) (cells : List ℕ) (j k name : ℕ) → ((c : ℕ) → c < k → P (valueIn cells (j + c))) → TypeBy P (asType (namedFrom cells j k name)) × DefBy P (asDef (namedFrom cells j k name))
 unfolding namedFrom
-named-by P cells j zero name h = tt
+named-by P cells j zero name h = (tt, tt)
 named-by P cells j (suc k) name h =
-    pick-by (DefBy P) (eqb (nameIn cells j) name) (def.Of (record { 0 = valueIn cells j })) (namedFrom cells (suc j) k name)
-    (λ z. rw (add-zero j) at (h 0 (omega arith)))
+    pick-by (λ i. TypeBy P (asType i) × DefBy P (asDef i)) (eqb (nameIn cells j) name) _ (namedFrom cells (suc j) k name)
+    (λ z. let p : P (valueIn cells j) = rw (add-zero j) at (h 0 (omega arith)) in (p, p))
     (λ z. named-by P cells (suc j) k name (λ c l. let e : suc j + c ≡ j + suc c = omega arith in rw e (h (suc c) (omega arith))))
-
--- the same number as a type
-as-type : (P : ℕ → Type 0) (d : MaybeDef) → DefBy P d → TypeBy P (asType d)
-as-type P def.Absent h = tt
-as-type P (def.Of d) h = h
 
 -- the first one of two
 or-else : (P : ℕ → Type 0) (d e : MaybeDef) → DefBy P d → DefBy P e → DefBy P (orElse d e)
@@ -257,10 +252,10 @@ module _ (n : Counts) (rows cells : List ℕ) (w : WellFormed n rows cells) wher
   inst-fields k name h =
       let g : RowGood (behind n key-inst k) (n .fields) key-inst (insts-at + k) rows cells = w .insts k h in
       let f : formIn rows (insts-at + k) ≡ 5 = only-form key-inst 5 _ refl (g .form) (g .key) in
-      as-type (Declared n) (namedFrom cells (firstIn rows (insts-at + k) + 0) (countBehind (countIn rows (insts-at + k)) 0) name)
-      (named-by (Declared n) cells _ _ name
+      named-by (Declared n) cells _ _ name
       (λ c l. named-type-field (behind n key-inst k) NamedType _ rows cells
-      (item-field (behind n key-inst k) (n .fields) key-inst (insts-at + k) 5 rows cells g f 0 NamedType (omega arith) (λ i a. kind-by (λ t. t ≡ NamedType) (formAt 5) i (λ z. refl) (λ z. refl) refl refl) c l) refl))
+      (item-field (behind n key-inst k) (n .fields) key-inst (insts-at + k) 5 rows cells g f 0 NamedType (omega arith) (λ i a. kind-by (λ t. t ≡ NamedType) (formAt 5) i (λ z. refl) (λ z. refl) refl refl) c l) refl)
+      .0
 
   -- a method of a bind
   bind-method : (ts : List Shape) (j x name : ℕ) → j < n .binds → DefBy (λ d. d < n .defs) (methodIn ts rows cells j x name)
@@ -270,7 +265,7 @@ module _ (n : Counts) (rows cells : List ℕ) (w : WellFormed n rows cells) wher
       let f : formIn rows (binds-at + j) ≡ 6 = only-form key-bind 6 _ refl (g .form) (g .key) in
       pick-by (DefBy (λ d. d < n .defs)) (bindsFor ts x (valueIn cells (firstIn rows (binds-at + j)))) _ def.Absent
       (λ z. named-by (λ d. d < n .defs) cells _ _ name
-      (λ c l. item-field (behind n key-bind j) (n .fields) key-bind (binds-at + j) 6 rows cells g f 1 NamedDef (omega arith) (λ i a. kind-by (λ t. t ≡ NamedDef) (formAt 6) i (λ z. absurd (omega arith)) (λ z. refl) refl refl) c l .def refl))
+      (λ c l. item-field (behind n key-bind j) (n .fields) key-bind (binds-at + j) 6 rows cells g f 1 NamedDef (omega arith) (λ i a. kind-by (λ t. t ≡ NamedDef) (formAt 6) i (λ z. absurd (omega arith)) (λ z. refl) refl refl) c l .def refl) .1)
       (λ z. tt)
 
   -- the first method of k binds from j on

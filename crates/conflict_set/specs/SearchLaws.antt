@@ -17,6 +17,7 @@ use Rattle.theory.specs.Solve.{solves}
 use Rattle.theory.specs.Basics.{All, clash, and-both, eqb-true}
 use Rattle.theory.specs.Ways.{Plain, plain-base, plain-var, plain-array}
 use Rattle.type_table.specs.declared.Counts.{Counts}
+use Rattle.type_table.specs.declared.TypeId.{TypeId}
 use Rattle.type_table.specs.declared.VarId.{VarId}
 use Rattle.type_table.specs.declared.Kind.{Kind as Kind·C}
 use Rattle.type_table.specs.declared.Kind.the-variants as kinds
@@ -55,8 +56,8 @@ use Rattle.conflict_set.specs.Searching.{leadVar, leadIn, varNumber, ope
 
 -- where a row leads, in the rules' words
 abbrev pub byLead : (ℕ → Option ℕ) → Lead → Option ℕ
-byLead f (lead.On z) = f z
-byLead f (lead.Open v) = some v
+byLead f (lead.On z) = f (z .0)
+byLead f (lead.Open v) = some (v .0)
 byLead f lead.Nowhere = none
 
 lead-var : (b : List (Option ℕ)) (f : ℕ → Option ℕ) (v : ℕ) (o : Option ℕ) → byLead f (leadVar v o) ≡ endVar [] b f v o
@@ -88,7 +89,7 @@ module _ (m : List ℕ) (c : Counts) where
       let a = numberAt m (c .types) y in
       ap (endShape (rowsIn m c) (bindsOf m (c .vars)) (endTo n)) (row-by m (c .types) y)
       ∙ end-shape (rowsIn m c) (bindsOf m (c .vars)) (endTo n) h a (outputAt m (c .types) y) (inputsFrom m (firstAt m (c .types) y) (countAt m (c .types) y)) (head-low m (c .types) y)
-      ∙ sym (by-cases (endTo n) (eqb h 8) (eqb h 12) (lead.On a) (leadVar a (bindingAt m (c .vars) a)) lead.Nowhere ∙ rw (bound-at m (c .vars) a) (ap (λ z. pick (eqb h 8) (endTo n a) (pick (eqb h 12) z none)) (lead-var (bindsOf m (c .vars)) (endTo n) a (bindingAt m (c .vars) a))))
+      ∙ sym (by-cases (endTo n) (eqb h 8) (eqb h 12) (lead.On (view.type a)) (leadVar a (bindingAt m (c .vars) a)) lead.Nowhere ∙ rw (bound-at m (c .vars) a) (ap (λ z. pick (eqb h 8) (endTo n a) (pick (eqb h 12) z none)) (lead-var (bindsOf m (c .vars)) (endTo n) a (bindingAt m (c .vars) a))))
 
   -- from the row y, with n steps left
   abbrev pub Leads : ℕ → ℕ → ℕ → Type 0
@@ -102,10 +103,10 @@ module _ (m : List ℕ) (c : Counts) where
     step-is : endTo n y ≡ byLead (endTo k) (leadIn m c y)
     step-is = let d : n ≡ suc k = omega arith in rw d (end-step k y)
 
-    pub leads-on : (w : ℕ) → lead.On w ≡ leadIn m c y → Leads x w k
+    pub leads-on : (w : TypeId) → lead.On w ≡ leadIn m c y → Leads x (w .0) k
     leads-on w p = sym (ap varNumber (step-is ∙ ap (byLead (endTo k)) (sym p))) ∙ g
 
-    pub leads-open : (v : ℕ) → lead.Open v ≡ leadIn m c y → v ≡ openEndIn m c x
+    pub leads-open : (v : VarId) → lead.Open v ≡ leadIn m c y → v .0 ≡ openEndIn m c x
     leads-open v p = sym (ap varNumber (step-is ∙ ap (byLead (endTo k)) (sym p))) ∙ g
 
     pub leads-nowhere : lead.Nowhere ≡ leadIn m c y → 65535 ≡ openEndIn m c x
@@ -115,24 +116,24 @@ module _ (m : List ℕ) (c : Counts) where
   unfolding openEnd
   leads-end x y n z g = let d : n ≡ 0 = omega arith in rw d at g
 
-  module _ (y h a : ℕ) (p : h ≡ headAt m (c .types) y) (q : a ≡ numberAt m (c .types) y) where
-    pub lead-array : h ≡ 8 → lead.On a ≡ leadIn m c y
+  module _ (y h : ℕ) (p : h ≡ headAt m (c .types) y) where
+    pub lead-array : h ≡ 8 → (x : TypeId) → x .0 ≡ numberAt m (c .types) y → lead.On x ≡ leadIn m c y
     unfolding leadIn
-    lead-array e = rw (← p, e, ← q) refl
+    lead-array e x q = rw (← p, e, ← q) refl
 
-    pub lead-bound : h ≢ 8 → h ≡ 12 → (v : VarId) (b : Bound) → v .0 ≡ a → b ≡ view.boundIn m c v → (x : ℕ) → b ≡ binding.To (view.type x) → lead.On x ≡ leadIn m c y
+    pub lead-bound : h ≢ 8 → h ≡ 12 → (v : VarId) (b : Bound) → v .0 ≡ numberAt m (c .types) y → b ≡ view.boundIn m c v → (x : TypeId) → b ≡ binding.To x → lead.On x ≡ leadIn m c y
     unfolding leadIn view.boundIn
-    lead-bound k e v b s r x t = rw (← p, ne-eqb h 8 k, e, ← q) (by (bindingAt m (c .vars) a) (sym t ∙ r ∙ ap (λ i. boundCode (bindingAt m (c .vars) i)) s))
+    lead-bound k e v b q r x t = rw (← p, ne-eqb h 8 k, e, ← q) (by (bindingAt m (c .vars) (v .0)) (sym t ∙ r))
       where
-        by : (o : Option ℕ) → binding.To (view.type x) ≡ boundCode o → lead.On x ≡ leadVar a o
+        by : (o : Option ℕ) → binding.To x ≡ boundCode o → lead.On x ≡ leadVar (v .0) o
         by none d = clash (cc)
-        by (some r) d = let q : x ≡ r = ap rowOf d in rw q refl
+        by (some r) d = ap (λ z. lead.On (view.type z)) (ap rowOf d)
 
-    pub lead-open : h ≢ 8 → h ≡ 12 → (v : VarId) (b : Bound) → v .0 ≡ a → b ≡ view.boundIn m c v → b ≡ binding.Open → lead.Open a ≡ leadIn m c y
+    pub lead-open : h ≢ 8 → h ≡ 12 → (v : VarId) (b : Bound) → v .0 ≡ numberAt m (c .types) y → b ≡ view.boundIn m c v → b ≡ binding.Open → lead.Open v ≡ leadIn m c y
     unfolding leadIn view.boundIn
-    lead-open k e v b s r t = rw (← p, ne-eqb h 8 k, e, ← q) (by (bindingAt m (c .vars) a) (sym t ∙ r ∙ ap (λ i. boundCode (bindingAt m (c .vars) i)) s))
+    lead-open k e v b q r t = rw (← p, ne-eqb h 8 k, e, ← q) (by (bindingAt m (c .vars) (v .0)) (sym t ∙ r))
       where
-        by : (o : Option ℕ) → binding.Open ≡ boundCode o → lead.Open a ≡ leadVar a o
+        by : (o : Option ℕ) → binding.Open ≡ boundCode o → lead.Open v ≡ leadVar (v .0) o
         by none d = refl
         by (some r) d = clash (cc)
 
@@ -254,15 +255,15 @@ module _ (m : List ℕ) (c : Counts) (y : ℕ) where
   row-is = row-by m (c .types) y
 
   -- a row that leads to an open variable is that variable's
-  open-is : (v : ℕ) → leadIn m c y ≡ lead.Open v → (row (rowsIn m c) y ≡ var v) × (bound (memIn m c .binds) v ≡ none)
+  open-is : (v : ℕ) → leadIn m c y ≡ lead.Open (view.variable v) → (row (rowsIn m c) y ≡ var v) × (bound (memIn m c .binds) v ≡ none)
   unfolding leadIn shapeOf
   open-is v e = by (eqb its-head 8) refl (eqb its-head 12) refl e
     where
-      variable : (o : Option ℕ) → bindingAt m (c .vars) its-number ≡ o → its-head ≡ 12 → leadVar its-number o ≡ lead.Open v → (row (rowsIn m c) y ≡ var v) × (bound (memIn m c .binds) v ≡ none)
+      variable : (o : Option ℕ) → bindingAt m (c .vars) its-number ≡ o → its-head ≡ 12 → leadVar its-number o ≡ lead.Open (view.variable v) → (row (rowsIn m c) y ≡ var v) × (bound (memIn m c .binds) v ≡ none)
       variable (some r) b h d = clash (cc)
-      variable none b h d = let q : its-number ≡ v = cc in (row-is ∙ rw (h, q) refl, bound-in m c v ∙ rw q at b)
+      variable none b h d = let s : some its-number ≡ some v = ap (byLead (λ z. none)) d in let q : its-number ≡ v = cc in (row-is ∙ rw (h, q) refl, bound-in m c v ∙ rw q at b)
 
-      by : (p : Bool) → eqb its-head 8 ≡ p → (q : Bool) → eqb its-head 12 ≡ q → pick p (lead.On its-number) (pick q (leadVar its-number (bindingAt m (c .vars) its-number)) lead.Nowhere) ≡ lead.Open v → (row (rowsIn m c) y ≡ var v) × (bound (memIn m c .binds) v ≡ none)
+      by : (p : Bool) → eqb its-head 8 ≡ p → (q : Bool) → eqb its-head 12 ≡ q → pick p (lead.On (view.type its-number)) (pick q (leadVar its-number (bindingAt m (c .vars) its-number)) lead.Nowhere) ≡ lead.Open (view.variable v) → (row (rowsIn m c) y ≡ var v) × (bound (memIn m c .binds) v ≡ none)
       by true i q j d = clash (cc)
       by false i true j d = variable (bindingAt m (c .vars) its-number) refl (eqb-true its-head 12 j) d
       by false i false j d = clash (cc)
@@ -303,10 +304,10 @@ free-met m c i u p f = by (leadIn m c x) refl (leadIn m c y) refl f
     by : (l : Lead) → leadIn m c x ≡ l → (k : Lead) → leadIn m c y ≡ k → freeLeads (kindsIn m c) l k ≡ true → (addedIn m c i) .0 ≡ success
     by (lead.On z) e k d t = clash (cc)
     by (lead.Open a) e (lead.On z) d t = clash (cc)
-    by (lead.Open a) e (lead.Open b) d t = let q = open-is m c x a e in let r = open-is m c y b d in free-vars (rowsIn m c) (kindsIn m c) (memIn m c) u x y a b (q .0) (r .0) (q .1) (r .1) t
-    by (lead.Open a) e lead.Nowhere d t = let q = open-is m c x a e in free-expected (rowsIn m c) (kindsIn m c) (memIn m c) u x y a (q .0) (q .1) t (got d (p .1))
+    by (lead.Open a) e (lead.Open b) d t = let q = open-is m c x (a .0) e in let r = open-is m c y (b .0) d in free-vars (rowsIn m c) (kindsIn m c) (memIn m c) u x y (a .0) (b .0) (q .0) (r .0) (q .1) (r .1) t
+    by (lead.Open a) e lead.Nowhere d t = let q = open-is m c x (a .0) e in free-expected (rowsIn m c) (kindsIn m c) (memIn m c) u x y (a .0) (q .0) (q .1) t (got d (p .1))
     by lead.Nowhere e (lead.On z) d t = clash (cc)
-    by lead.Nowhere e (lead.Open b) d t = let r = open-is m c y b d in let q = base-is m c x e (p .0) in free-got (rowsIn m c) (kindsIn m c) (memIn m c) u x y b (q .0) (q .1) (r .0) (r .1) t
+    by lead.Nowhere e (lead.Open b) d t = let r = open-is m c y (b .0) d in let q = base-is m c x e (p .0) in free-got (rowsIn m c) (kindsIn m c) (memIn m c) u x y (b .0) (q .0) (q .1) (r .0) (r .1) t
     by lead.Nowhere e lead.Nowhere d t = clash (cc)
 
 -- ── a stack of equations ──
@@ -783,7 +784,7 @@ pub meet-law : (m : List ℕ) (c : Counts) (v w : VarId) (k l : Kind·C) (r : Bo
 meet-law m c v w k l r d e f t = rw (ne-eqb (v .0) (w .0) d) (t ∙ ap (λ z. kindsMeet (kindK z) (kindK l)) e ∙ ap (λ z. kindsMeet (kindK (view.kindIn m c v)) (kindK z)) f ∙ rw (kind-in m c v, kind-in m c w) refl)
 
 module _ (m : List ℕ) (c : Counts) (x y : ℕ) (l : Lead) (e : l ≡ leadIn m c x) where
-  pub free-on : (z : ℕ) → l ≡ lead.On z → false ≡ freeIn m c x y
+  pub free-on : (z : TypeId) → l ≡ lead.On z → false ≡ freeIn m c x y
   unfolding freeIn
   free-on z d = ap (λ l. freeLeads (kindsIn m c) l (leadIn m c y)) (sym d ∙ e)
 

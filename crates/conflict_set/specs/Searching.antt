@@ -10,6 +10,7 @@ use Rattle.theory.specs.Rules.{Kind, kind, isRegular}
 use Rattle.theory.specs.Program.{fuel}
 use Rattle.type_table.specs.declared.Counts.{Counts}
 use Rattle.type_table.specs.Memory.{pick, cell, headAt, numberAt, bindingAt}
+use Rattle.type_table.specs.View.{type, variable}
 use Rattle.unify.specs.Promise.{rowsIn, kindsIn, memIn}
 use Rattle.conflict_theory.specs.Test.{ok}
 use Rattle.conflict_theory.specs.Worked.{PlainPair, from}
@@ -33,12 +34,12 @@ use Rattle.conflict_set.specs.In.{Whole, Kept, pairIn, listIn, addedIn, 
 
 -- where a variable leads, by its binding
 abbrev pub leadVar : ℕ → Option ℕ → Lead
-leadVar v none = lead.Open v
-leadVar v (some r) = lead.On r
+leadVar v none = lead.Open (variable v)
+leadVar v (some r) = lead.On (type r)
 
 -- where the row y leads
 unfoldable pub leadIn : List ℕ → Counts → ℕ → Lead
-leadIn m c y = let h = headAt m (c .types) y in let a = numberAt m (c .types) y in pick (eqb h 8) (lead.On a) (pick (eqb h 12) (leadVar a (bindingAt m (c .vars) a)) lead.Nowhere)
+leadIn m c y = let h = headAt m (c .types) y in let a = numberAt m (c .types) y in pick (eqb h 8) (lead.On (type a)) (pick (eqb h 12) (leadVar a (bindingAt m (c .vars) a)) lead.Nowhere)
 
 -- the number of a variable, that of no variable for none
 abbrev pub varNumber : Option ℕ → ℕ
@@ -108,10 +109,10 @@ pub record PoppedBy (m : List ℕ) (c : Counts) (t : List ℕ) (p k : ℕ) (w : 
 abbrev pub freeLeads : List Kind → Lead → Lead → Bool
 freeLeads kinds (lead.On z) l = false
 freeLeads kinds (lead.Open a) (lead.On z) = false
-freeLeads kinds (lead.Open a) (lead.Open b) = canMeet kinds a b
-freeLeads kinds (lead.Open a) lead.Nowhere = isRegular (kind kinds a)
+freeLeads kinds (lead.Open a) (lead.Open b) = canMeet kinds (a .0) (b .0)
+freeLeads kinds (lead.Open a) lead.Nowhere = isRegular (kind kinds (a .0))
 freeLeads kinds lead.Nowhere (lead.On z) = false
-freeLeads kinds lead.Nowhere (lead.Open b) = isRegular (kind kinds b)
+freeLeads kinds lead.Nowhere (lead.Open b) = isRegular (kind kinds (b .0))
 freeLeads kinds lead.Nowhere lead.Nowhere = false
 
 -- the rows x and y are so free that their equation is met for certain

@@ -128,10 +128,10 @@ fn plain_head(h: u16) -> bool
 fn is_plain(m: &[u16], c: Counts, x: TypeId) -> bool
     ensures { λ r. ⌜ r ≡ isPlain (rowsIn (now (m .entry)) c) (x .0) ⌝ }
 {
-    let mut y = x.0;
-    let mut n = y;
+    let mut y = x;
+    let mut n = x.0;
     loop {
-        let h = type_table::head(m, c, TypeId(y));
+        let h = type_table::head(m, c, y);
         if h != HEAD_ARRAY {
             return plain_head(h);
         }
@@ -139,7 +139,7 @@ fn is_plain(m: &[u16], c: Counts, x: TypeId) -> bool
             return false;
         }
         n -= 1;
-        y = type_table::number(m, c, TypeId(y));
+        y = type_table::element(m, c, y);
     }
 }
 
@@ -318,25 +318,26 @@ fn scan(m: &mut [u16], c: Counts, n: u16, set: &mut [u16]) -> u16
 // Where a row leads.
 enum Lead {
     // On to this row.
-    On(u16),
+    On(TypeId),
     // It is this variable's, and that is open.
-    Open(u16),
+    Open(VarId),
     Nowhere,
 }
 
 // Where the row y leads: an array to its element, a bound variable to its binding.
-fn lead_from(m: &[u16], c: Counts, y: u16) -> Lead
-    ensures { λ r. ⌜ r ≡ leadIn (now (m .entry)) c y ⌝ }
+fn lead_from(m: &[u16], c: Counts, y: TypeId) -> Lead
+    ensures { λ r. ⌜ r ≡ leadIn (now (m .entry)) c (y .0) ⌝ }
 {
-    let h = type_table::head(m, c, TypeId(y));
-    let a = type_table::number(m, c, TypeId(y));
+    let h = type_table::head(m, c, y);
     if h == HEAD_ARRAY {
-        return Lead::On(a);
+        let e = type_table::element(m, c, y);
+        return Lead::On(e);
     }
     if h == HEAD_INFER_TY {
-        return match type_table::bound_to(m, c, VarId(a)) {
-            Bound::To(x) => Lead::On(x.0),
-            Bound::Open => Lead::Open(a),
+        let v = type_table::var_of(m, c, y);
+        return match type_table::bound_to(m, c, v) {
+            Bound::To(x) => Lead::On(x),
+            Bound::Open => Lead::Open(v),
         };
     }
     Lead::Nowhere
@@ -349,7 +350,7 @@ fn open_end(m: &[u16], c: Counts, x: TypeId) -> u16
     let t = c.types as u64;
     let v = c.vars as u64;
     let mut n = v * (t + t + 1) + (t + t) + 1;
-    let mut y = x.0;
+    let mut y = x;
     while 0 < n {
         n -= 1;
         match lead_from(m, c, y) {
@@ -357,7 +358,7 @@ fn open_end(m: &[u16], c: Counts, x: TypeId) -> u16
                 y = z;
             }
             Lead::Open(a) => {
-                return a;
+                return a.0;
             }
             Lead::Nowhere => {
                 return NO_VAR;
@@ -445,10 +446,10 @@ fn pop(m: &mut [u16], c: Counts, bound: &[u16], p: u16, k: u16)
 // ── the search: the last equation of a subset ──
 
 // Whether a variable is Regular.
-fn is_regular(m: &[u16], c: Counts, v: u16) -> bool
-    ensures { λ r. ⌜ r ≡ isRegular (kind (kindsIn (now (m .entry)) c) v) ⌝ }
+fn is_regular(m: &[u16], c: Counts, v: VarId) -> bool
+    ensures { λ r. ⌜ r ≡ isRegular (kind (kindsIn (now (m .entry)) c) (v .0)) ⌝ }
 {
-    match type_table::kind_of(m, c, VarId(v)) {
+    match type_table::kind_of(m, c, v) {
         Kind::Regular => true,
         Kind::Integer => false,
         Kind::Float => false,
@@ -475,30 +476,29 @@ fn kinds_meet(k: Kind, l: Kind) -> bool
 }
 
 // Whether two open variables are two, of kinds that can be one.
-fn can_meet(m: &[u16], c: Counts, a: u16, b: u16) -> bool
-    ensures { λ r. ⌜ r ≡ canMeet (kindsIn (now (m .entry)) c) a b ⌝ }
+fn can_meet(m: &[u16], c: Counts, a: VarId, b: VarId) -> bool
+    ensures { λ r. ⌜ r ≡ canMeet (kindsIn (now (m .entry)) c) (a .0) (b .0) ⌝ }
 {
-    if a == b {
+    let i = a.0;
+    let j = b.0;
+    if i == j {
         return false;
     }
-    kinds_meet(
-        type_table::kind_of(m, c, VarId(a)),
-        type_table::kind_of(m, c, VarId(b)),
-    )
+    kinds_meet(type_table::kind_of(m, c, a), type_table::kind_of(m, c, b))
 }
 
 // Whether two rows are so free that their equation is met for certain: two open variables, or one and a type without parts.
 fn is_free(m: &[u16], c: Counts, x: TypeId, y: TypeId) -> bool
     ensures { λ r. ⌜ r ≡ freeIn (now (m .entry)) c (x .0) (y .0) ⌝ }
 {
-    match lead_from(m, c, x.0) {
+    match lead_from(m, c, x) {
         Lead::On(z) => false,
-        Lead::Open(a) => match lead_from(m, c, y.0) {
+        Lead::Open(a) => match lead_from(m, c, y) {
             Lead::On(z) => false,
             Lead::Open(b) => can_meet(m, c, a, b),
             Lead::Nowhere => is_regular(m, c, a),
         },
-        Lead::Nowhere => match lead_from(m, c, y.0) {
+        Lead::Nowhere => match lead_from(m, c, y) {
             Lead::On(z) => false,
             Lead::Open(b) => is_regular(m, c, b),
             Lead::Nowhere => false,

@@ -22,7 +22,9 @@ use Rattle.nodes.specs.declared.Field.{Field}
 use Rattle.nodes.specs.declared.Node.{Node}
 use Rattle.nodes.specs.declared.Node.the-variants as form
 use Rattle.nodes.specs.declared.TypeRow.{TypeRow}
-use Rattle.nodes.specs.Nodes.{fieldIn, behind, numbersFrom, nodeOf, nodeAt, typeRowOf, typeRowAt, shapeInputs, defInputs, item, itemsOf, nth, namedFrom, asType, fieldType, asArr, ofFunctions, bindsFor, named, methodIn, methodFrom, failedFrom}
+use Rattle.nodes.specs.declared.NamedItem.{NamedItem}
+use Rattle.nodes.specs.declared.NamedItem.the-variants as item·N
+use Rattle.nodes.specs.Nodes.{fieldIn, behind, numbersFrom, nodeOf, nodeAt, typeRowOf, typeRowAt, shapeInputs, defInputs, item, itemsOf, nth, namedFrom, asType, asDef, fieldType, asArr, ofFunctions, bindsFor, named, methodIn, methodFrom, failedFrom}
 use Rattle.nodes.specs.Numbers.{length-items}
 use Rattle.nodes.specs.Shapes.{row-inputs, row-element, row-is-fun, row-fun, row-lam, row-arr}
 
@@ -147,15 +149,15 @@ module _ (m : List ℕ) (n x h : ℕ) (hq : h ≡ headAt m n x) where
 -- ── fields and methods ──
 
 -- what is asked (w) comes down to the fields from i on
-module _ (w : MaybeDef) (cells : List ℕ) (j k i name : ℕ) (inv : w ≡ namedFrom cells (j + i) (k - i) name) where
+module _ (w : NamedItem) (cells : List ℕ) (j k i name : ℕ) (inv : w ≡ namedFrom cells (j + i) (k - i) name) where
   -- none has the name
-  pub named-none : k ≤ i → def.Absent ≡ w
+  pub named-none : k ≤ i → item·N.Absent ≡ w
   unfolding namedFrom
   named-none h = sym (inv ∙ rw (none-left k i h))
 
   module _ (h : i < k) (x : ℕ) (xq : x ≡ nameIn cells (j + i)) where
     -- the field i has it
-    pub named-here : (y : ℕ) → x ≡ name → y ≡ valueIn cells (j + i) → def.Of (record { 0 = y }) ≡ w
+    pub named-here : (y : ℕ) → x ≡ name → y ≡ valueIn cells (j + i) → item·N.Of y ≡ w
     unfolding namedFrom
     named-here y e yq = sym (inv ∙ rw (one-more k i h, ← xq, eq-eqb x name e, ← yq))
 
@@ -165,7 +167,7 @@ module _ (w : MaybeDef) (cells : List ℕ) (j k i name : ℕ) (inv : w ≡ named
     named-more e = inv ∙ rw (one-more k i h, ← xq, ne-eqb x name e, next-place j i)
 
 -- the type of a field is the number of the first item of its name
-pub field-type-is : (rows cells : List ℕ) (k f n name : ℕ) (t : Items) (w : MaybeDef) (r : MaybeType) → f ≡ firstIn rows (insts-at + k) → n ≡ countIn rows (insts-at + k) → t ≡ behind f n 0 → w ≡ named cells t name → r ≡ asType w → r ≡ fieldType rows cells k name
+pub field-type-is : (rows cells : List ℕ) (k f n name : ℕ) (t : Items) (w : NamedItem) (r : MaybeType) → f ≡ firstIn rows (insts-at + k) → n ≡ countIn rows (insts-at + k) → t ≡ behind f n 0 → w ≡ named cells t name → r ≡ asType w → r ≡ fieldType rows cells k name
 unfolding fieldType
 field-type-is rows cells k f n name t w r fq nq tq wq e = rw (wq, tq, nq, fq) at e
 
@@ -195,9 +197,9 @@ binds-same ts x y e = rw (eq-eqb x y e)
 
 module _ (ts : List Shape) (rows cells : List ℕ) (j f w x name : ℕ) (fq : f ≡ firstIn rows (binds-at + j)) (wq : w ≡ valueIn cells f) (b : Bool) (bq : b ≡ bindsFor ts x w) where
   -- a bind for the receiver has the methods that it names
-  pub method-named : (k : ℕ) (t : Items) (r : MaybeDef) → k ≡ countIn rows (binds-at + j) → t ≡ behind f k 1 → b ≡ true → r ≡ named cells t name → r ≡ methodIn ts rows cells j x name
+  pub method-named : (k : ℕ) (t : Items) (i : NamedItem) (r : MaybeDef) → k ≡ countIn rows (binds-at + j) → t ≡ behind f k 1 → b ≡ true → i ≡ named cells t name → r ≡ asDef i → r ≡ methodIn ts rows cells j x name
   unfolding methodIn
-  method-named k t r kq tq e rq = rw (← fq, ← wq, ← bq, e, ← kq) (rw tq at rq)
+  method-named k t i r kq tq e iq rq = rw (← fq, ← wq, ← bq, e, ← kq) (rw (iq, tq) at rq)
 
   -- another bind has none
   pub method-no-bind : b ≡ false → def.Absent ≡ methodIn ts rows cells j x name

@@ -37,6 +37,8 @@ use Rattle.nodes.specs.declared.TypeRow.the-variants as row·T
 use Rattle.nodes.specs.declared.Function.{Function}
 use Rattle.nodes.specs.declared.Callee.{Callee}
 use Rattle.nodes.specs.declared.Callee.the-variants as callee
+use Rattle.nodes.specs.declared.NamedItem.{NamedItem}
+use Rattle.nodes.specs.declared.NamedItem.the-variants as item·N
 
 -- a body that was read: its two tables, and how many binds it has
 pub record Body : Type 0 where
@@ -207,18 +209,23 @@ nth (x ∷ xs) (suc i) = nth xs i
 -- ── fields and methods ──
 
 -- the number of the first of k fields from j on that has a name
-unfoldable pub namedFrom : List ℕ → ℕ → ℕ → ℕ → MaybeDef
-namedFrom cells j zero name = def.Absent
-namedFrom cells j (suc k) name = pick (eqb (nameIn cells j) name) (def.Of (record { 0 = valueIn cells j })) (namedFrom cells (suc j) k name)
+unfoldable pub namedFrom : List ℕ → ℕ → ℕ → ℕ → NamedItem
+namedFrom cells j zero name = item·N.Absent
+namedFrom cells j (suc k) name = pick (eqb (nameIn cells j) name) (item·N.Of (valueIn cells j)) (namedFrom cells (suc j) k name)
 
 -- the number of the first item of a name
-abbrev pub named : List ℕ → Items → ℕ → MaybeDef
+abbrev pub named : List ℕ → Items → ℕ → NamedItem
 named cells t name = namedFrom cells (t .first + t .from) (t .count) name
 
--- the same number as a type
-abbrev pub asType : MaybeDef → MaybeType
-asType (def.Of d) = type.Of (record { 0 = d .0 })
-asType def.Absent = type.Absent
+-- that number as a type
+abbrev pub asType : NamedItem → MaybeType
+asType (item·N.Of x) = type.Of (record { 0 = x })
+asType item·N.Absent = type.Absent
+
+-- that number as a definition
+abbrev pub asDef : NamedItem → MaybeDef
+asDef (item·N.Of d) = def.Of (record { 0 = d })
+asDef item·N.Absent = def.Absent
 
 -- the type of the first field of a name
 unfoldable pub fieldType : List ℕ → List ℕ → ℕ → ℕ → MaybeType
@@ -266,7 +273,7 @@ bindsFor ts x w = eqb x w || (isSome (asArr (row ts x)) && ofFunctions ts (asArr
 unfoldable pub methodIn : List Shape → List ℕ → List ℕ → ℕ → ℕ → ℕ → MaybeDef
 methodIn ts rows cells j x name =
     let f = firstIn rows (binds-at + j) in
-    pick (bindsFor ts x (valueIn cells f)) (named cells (behind f (countIn rows (binds-at + j)) 1) name) def.Absent
+    pick (bindsFor ts x (valueIn cells f)) (asDef (named cells (behind f (countIn rows (binds-at + j)) 1) name)) def.Absent
 
 -- the first one, else the second
 abbrev pub orElse : MaybeDef → MaybeDef → MaybeDef

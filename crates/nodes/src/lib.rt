@@ -511,8 +511,14 @@ pub fn input(m: &[u16], c: Counts, rows: &[u16], cells: &[u16], f: Callee, i: u1
 
 // ── fields and methods ──
 
+// The number of an item that has a name, or none: a field's type, or a method's definition.
+enum NamedItem {
+    Of(u16),
+    Absent,
+}
+
 // The number of the first item of a name.
-fn named(cells: &[u16], t: Items, name: u16) -> MaybeDef
+fn named(cells: &[u16], t: Items, name: u16) -> NamedItem
     ensures { λ r. ⌜ r ≡ Rattle.nodes.specs.Nodes.named (now (cells .entry)) t name ⌝ }
 {
     let f = t.first;
@@ -522,11 +528,11 @@ fn named(cells: &[u16], t: Items, name: u16) -> MaybeDef
     while i < k {
         let j = f as u32 + g as u32 + i as u32;
         if refs::name_of(cells, j) == name {
-            return MaybeDef::Of(DefId(refs::value_of(cells, j)));
+            return NamedItem::Of(refs::value_of(cells, j));
         }
         i += 1;
     }
-    MaybeDef::Absent
+    NamedItem::Absent
 }
 
 // The type of the first field of a name.
@@ -537,8 +543,8 @@ pub fn field_type(rows: &[u16], cells: &[u16], k: InstId, name: u16) -> MaybeTyp
     let f = refs::first_of(rows, refs::INSTS_AT + i as u32);
     let n = refs::count_of(rows, refs::INSTS_AT + i as u32);
     match named(cells, behind(f, n, 0), name) {
-        MaybeDef::Of(d) => MaybeType::Of(TypeId(d.0)),
-        MaybeDef::Absent => MaybeType::Absent,
+        NamedItem::Of(x) => MaybeType::Of(TypeId(x)),
+        NamedItem::Absent => MaybeType::Absent,
     }
 }
 
@@ -547,8 +553,8 @@ fn is_array_of_functions(m: &[u16], c: Counts, x: TypeId) -> bool
     ensures { λ r. ⌜ r ≡ ofFunctions (rowsOf (now (m .entry)) (c .types)) (asArr (Rattle.theory.specs.Rules.row (rowsOf (now (m .entry)) (c .types)) (x .0))) ⌝ }
 {
     if type_table::head(m, c, x) == HEAD_ARRAY {
-        let e = type_table::number(m, c, x);
-        return type_table::head(m, c, TypeId(e)) == HEAD_PARAM;
+        let e = type_table::element(m, c, x);
+        return type_table::head(m, c, e) == HEAD_PARAM;
     }
     false
 }
@@ -585,7 +591,10 @@ fn method_in(
     let n = refs::count_of(rows, r);
     let w = refs::value_of(cells, f as u32);
     if binds_for(m, c, receiver, TypeId(w)) {
-        return named(cells, behind(f, n, 1), name);
+        return match named(cells, behind(f, n, 1), name) {
+            NamedItem::Of(d) => MaybeDef::Of(DefId(d)),
+            NamedItem::Absent => MaybeDef::Absent,
+        };
     }
     MaybeDef::Absent
 }

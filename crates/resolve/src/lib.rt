@@ -202,8 +202,8 @@ fn end(m: &mut [u16], c: Record, x: TypeId) -> Given
     let d = c.counts;
     let y = type_table::follow(m, d, x);
     if type_table::head(m, d, y) == HEAD_INFER_TY {
-        let v = type_table::number(m, d, y);
-        return open_type(m, c, VarId(v));
+        let v = type_table::var_of(m, d, y);
+        return open_type(m, c, v);
     }
     Given { record: c, ty: y }
 }
@@ -232,8 +232,8 @@ fn resolve_type_variable(m: &mut [u16], c: Record, x: TypeId) -> Given
         return end(m, c, x);
     }
     if h == HEAD_ARRAY {
-        let e = type_table::number(m, d, x);
-        return array(m, c, x, TypeId(e));
+        let e = type_table::element(m, d, x);
+        return array(m, c, x, e);
     }
     Given { record: c, ty: x }
 }

@@ -38,12 +38,10 @@ use type_table::HEAD_INT;
 use type_table::HEAD_LAMBDA;
 use type_table::HEAD_PARAM;
 use type_table::HEAD_REF;
-use type_table::InstId;
 use type_table::Kind;
 use type_table::NodeId;
 use type_table::Origin;
 use type_table::TypeId;
-use type_table::VarId;
 
 // The fields of `Types` that rules name.
 pub const NIL: u16 = 0;
@@ -199,8 +197,8 @@ fn deref(m: &mut [u16], c: Record, e: NodeId, x: TypeId) -> Typed
 {
     let d = c.counts;
     if type_table::head(m, d, x) == HEAD_REF {
-        let y = type_table::number(m, d, x);
-        return Typed::Type(c, TypeId(y));
+        let y = type_table::element(m, d, x);
+        return Typed::Type(c, y);
     }
     no_unary_op(m, c, e, x)
 }
@@ -224,8 +222,8 @@ fn negation(m: &mut [u16], c: Record, e: NodeId, x: TypeId) -> Typed
         return Typed::Type(c, x);
     }
     if h == HEAD_INFER_TY {
-        let v = type_table::number(m, d, x);
-        record::mark(m, c, VarId(v));
+        let v = type_table::var_of(m, d, x);
+        record::mark(m, c, v);
         return Typed::Type(c, x);
     }
     no_unary_op(m, c, e, x)
@@ -324,8 +322,8 @@ pub fn field(
     let d = c.counts;
     let h = type_table::head(m, d, x);
     if h == HEAD_INSTANCE {
-        let k = type_table::number(m, d, x);
-        let f = nodes::field_type(rows, cells, InstId(k), name);
+        let k = type_table::inst_of(m, d, x);
+        let f = nodes::field_type(rows, cells, k, name);
         return field_of(m, c, e, x, name, f);
     }
     if h == HEAD_ERROR {
@@ -382,8 +380,8 @@ pub fn element_of(m: &mut [u16], c: Record, n: NodeId, x: TypeId) -> Indexed
 {
     let d = c.counts;
     if type_table::head(m, d, x) == HEAD_ARRAY {
-        let e = type_table::number(m, d, x);
-        return Indexed::Element(TypeId(e));
+        let e = type_table::element(m, d, x);
+        return Indexed::Element(e);
     }
     let a = x.0;
     let r = own_error(m, c, ErrorKind::NoIndexOp, Span::Node(n), a, 0);
@@ -524,8 +522,8 @@ pub fn callee(rows: &[u16], cells: &[u16], m: &mut [u16], c: Record, n: NodeId, 
     let d = c.counts;
     let h = type_table::head(m, d, x);
     if h == HEAD_FN_DEF {
-        let f = type_table::number(m, d, x);
-        return Called::Sig(Callee::Def(DefId(f)), nodes::output(rows, cells, DefId(f)));
+        let f = type_table::def_of(m, d, x);
+        return Called::Sig(Callee::Def(f), nodes::output(rows, cells, f));
     }
     if h == HEAD_LAMBDA {
         return Called::Sig(Callee::Type(x), type_table::output(m, d, x));

@@ -78,8 +78,8 @@ fn push_parts(q: &mut [u16; 9244], m: &[u16], c: Counts, x: TypeId, tail: usize)
             push_inputs(q, m, n, r, t)
         }
         HEAD_ARRAY | HEAD_REF => {
-            let e = type_table::number(m, c, x);
-            push(q, n, tail, TypeId(e))
+            let e = type_table::element(m, c, x);
+            push(q, n, tail, e)
         }
         _ => tail,
     }
@@ -91,12 +91,13 @@ fn visit(q: &mut [u16; 9244], m: &[u16], c: Counts, v: VarId, x: TypeId, tail: u
 {
     let h = type_table::head(m, c, x);
     if h == HEAD_INFER_TY {
-        let u = type_table::number(m, c, x);
+        let u = type_table::var_of(m, c, x);
+        let i = u.0;
         let w = v.0;
-        if u == w {
+        if i == w {
             return Grown::Hit;
         }
-        match type_table::bound_to(m, c, VarId(u)) {
+        match type_table::bound_to(m, c, u) {
             Bound::Open => {
                 return Grown::Tail(tail);
             }
@@ -162,12 +163,12 @@ fn leads(m: &[u16], c: Counts, v: VarId, x: TypeId) -> Lead
     let h = type_table::head(m, c, x);
     match h {
         HEAD_ARRAY | HEAD_REF => {
-            let e = type_table::number(m, c, x);
-            Lead::To(TypeId(e))
+            let e = type_table::element(m, c, x);
+            Lead::To(e)
         }
         HEAD_INFER_TY => {
-            let u = type_table::number(m, c, x);
-            leads_var(m, c, v, VarId(u))
+            let u = type_table::var_of(m, c, x);
+            leads_var(m, c, v, u)
         }
         HEAD_PARAM | HEAD_LAMBDA => Lead::Parts,
         _ => Lead::End,
@@ -209,8 +210,8 @@ pub fn seek(m: &[u16], c: Counts, v: VarId, z: TypeId) -> Found
     while 0 < n {
         let h = type_table::head(m, c, x);
         if h == HEAD_INFER_TY {
-            let u = type_table::number(m, c, x);
-            match leads_var(m, c, v, VarId(u)) {
+            let u = type_table::var_of(m, c, x);
+            match leads_var(m, c, v, u) {
                 Lead::At => {
                     return Found::Ring;
                 }

@@ -169,11 +169,39 @@ fn row_cell(m: &[u16], c: Counts, x: TypeId, k: u16) -> u16
     memory_cells::row_cell(m, i, k)
 }
 
-// The number that a row has first: a width, instance, definition, element, variable, SPAN or node.
+// The number that a row has first, whatever it stands for: a width, instance, definition, element, variable, SPAN or node.
 pub fn number(m: &[u16], c: Counts, x: TypeId) -> u16
     ensures { λ r. ⌜ r ≡ numberAt (now (m .entry)) (c .types) (x .0) ⌝ }
 {
     row_cell(m, c, x, 1)
+}
+
+// The variable of a row of InferTy.
+pub fn var_of(m: &[u16], c: Counts, x: TypeId) -> VarId
+    ensures { λ r. ⌜ r .0 ≡ numberAt (now (m .entry)) (c .types) (x .0) ⌝ }
+{
+    VarId(number(m, c, x))
+}
+
+// The element of an array, or what a reference refers to.
+pub fn element(m: &[u16], c: Counts, x: TypeId) -> TypeId
+    ensures { λ r. ⌜ r .0 ≡ numberAt (now (m .entry)) (c .types) (x .0) ⌝ }
+{
+    TypeId(number(m, c, x))
+}
+
+// The definition of a row of FnDef.
+pub fn def_of(m: &[u16], c: Counts, x: TypeId) -> DefId
+    ensures { λ r. ⌜ r .0 ≡ numberAt (now (m .entry)) (c .types) (x .0) ⌝ }
+{
+    DefId(number(m, c, x))
+}
+
+// The instance of a row of Instance.
+pub fn inst_of(m: &[u16], c: Counts, x: TypeId) -> InstId
+    ensures { λ r. ⌜ r .0 ≡ numberAt (now (m .entry)) (c .types) (x .0) ⌝ }
+{
+    InstId(number(m, c, x))
 }
 
 // The output of a function or a lambda.
@@ -687,8 +715,7 @@ fn onward(m: &[u16], c: Counts, x: TypeId) -> Bound
 {
     let h = head(m, c, x);
     if h == HEAD_INFER_TY {
-        let u = number(m, c, x);
-        return bound_to(m, c, VarId(u));
+        return bound_to(m, c, var_of(m, c, x));
     }
     Bound::Open
 }

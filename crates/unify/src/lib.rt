@@ -54,8 +54,8 @@ fn class(m: &[u16], c: Counts, z: TypeId) -> Kind
         HEAD_FLOAT => Kind::Float,
         HEAD_DOUBLE => Kind::Float,
         HEAD_INFER_TY => {
-            let u = type_table::number(m, c, z);
-            type_table::kind_of(m, c, VarId(u))
+            let u = type_table::var_of(m, c, z);
+            type_table::kind_of(m, c, u)
         }
         _ => Kind::Regular,
     }
@@ -92,9 +92,9 @@ fn exchange(m: &[u16], c: Counts, x: TypeId, z: TypeId) -> Meeting
 {
     let h = type_table::head(m, c, z);
     if h == HEAD_INFER_TY {
-        let u = type_table::number(m, c, z);
-        return match type_table::kind_of(m, c, VarId(u)) {
-            Kind::Regular => Meeting::Of(VarId(u), x),
+        let u = type_table::var_of(m, c, z);
+        return match type_table::kind_of(m, c, u) {
+            Kind::Regular => Meeting::Of(u, x),
             Kind::Integer => Meeting::Unfit,
             Kind::Float => Meeting::Unfit,
         };
@@ -108,11 +108,11 @@ fn roles(m: &[u16], c: Counts, x: TypeId, z: TypeId) -> Meeting
 {
     let h = type_table::head(m, c, x);
     if h == HEAD_INFER_TY {
-        let u = type_table::number(m, c, x);
-        let k = type_table::kind_of(m, c, VarId(u));
+        let u = type_table::var_of(m, c, x);
+        let k = type_table::kind_of(m, c, u);
         let l = class(m, c, z);
         if kind_test(k, l) {
-            return Meeting::Of(VarId(u), z);
+            return Meeting::Of(u, z);
         }
         return exchange(m, c, x, z);
     }
@@ -136,9 +136,10 @@ fn same_var(m: &[u16], c: Counts, v: VarId, z: TypeId) -> bool
 {
     let h = type_table::head(m, c, z);
     if h == HEAD_INFER_TY {
-        let u = type_table::number(m, c, z);
+        let u = type_table::var_of(m, c, z);
+        let i = u.0;
         let w = v.0;
-        return u == w;
+        return i == w;
     }
     false
 }
@@ -321,8 +322,8 @@ fn pass(m: &mut [u16], c: Counts, v: VarId, z: TypeId)
     if type_table::is_marked(m, c, v) {
         let h = type_table::head(m, c, z);
         if h == HEAD_INFER_TY {
-            let u = type_table::number(m, c, z);
-            type_table::mark(m, c, VarId(u));
+            let u = type_table::var_of(m, c, z);
+            type_table::mark(m, c, u);
         }
     }
 }
@@ -358,9 +359,9 @@ fn down(m: &[u16], c: Counts, x: TypeId, y: TypeId) -> Next
     let h = type_table::head(m, c, x);
     let k = type_table::head(m, c, y);
     if both(h, HEAD_ARRAY, k, HEAD_ARRAY) {
-        let a = type_table::number(m, c, x);
-        let b = type_table::number(m, c, y);
-        return Next::On(TypeId(a), TypeId(b));
+        let a = type_table::element(m, c, x);
+        let b = type_table::element(m, c, y);
+        return Next::On(a, b);
     }
     Next::Into(x, y)
 }

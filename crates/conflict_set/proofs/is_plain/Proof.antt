@@ -9,7 +9,7 @@ use Rattle.conflict_set.proofs.is_plain.Statement.{statement}
 use Rattle.conflict_set.proofs.is_plain.Tie as tie
 
 abbrev Inv-loop : tie.InvT-loop
-Inv-loop m c y₀ n₀ y n = isPlain (rowsIn m c) y₀ ≡ plainIn (rowsIn m c) (suc n) y
+Inv-loop m c y₀ n₀ y n = isPlain (rowsIn m c) (y₀ .0) ≡ plainIn (rowsIn m c) (suc n) (y .0)
 
 abbrev μ-loop : tie.MeasureT-loop
 μ-loop m c y₀ n₀ y n = n
@@ -28,4 +28,4 @@ is-plain-spec =
     (λ c. search needs)
     (λ c κs. search needs)
     (λ c. omega (arith, (c .before .if2 .left)))
-    (λ c. (c .before .before .before .before .loop .inv) ∙ plain-on ((c .before .before .before .before .before .before .args .m .now)) ((c .before .before .before .before .before .before .args .c)) _ _ _ _ ((c .before .before .before .head .ensures)) ((c .before .before .if1 .left)) ((c .before .if2 .left)) ((c .number .ensures))))
+    (λ c. (c .before .before .before .before .loop .inv) ∙ plain-on ((c .before .before .before .before .before .before .args .m .now)) ((c .before .before .before .before .before .before .args .c)) _ _ _ _ ((c .before .before .before .head .ensures)) ((c .before .before .if1 .left)) ((c .before .if2 .left)) ((c .element .ensures))))

@@ -8,7 +8,7 @@ use Rattle.conflict_set.proofs.open_end.Statement.{statement}
 use Rattle.conflict_set.proofs.open_end.Tie as tie
 
 abbrev Inv-loop : tie.InvT-loop
-Inv-loop m c t v n₀ y₀ n y = Leads m c y₀ y n
+Inv-loop m c t v n₀ y₀ n y = Leads m c (y₀ .0) (y .0) n
 
 abbrev μ-loop : tie.MeasureT-loop
 μ-loop m c t v n₀ y₀ n y = n

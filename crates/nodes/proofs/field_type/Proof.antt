@@ -16,5 +16,5 @@ field-type-spec =
     (λ c κs. search needs)
     (λ c. search needs)
     (λ c. search needs)
-    (λ c. field-type-is _ _ _ _ _ _ _ _ _ (c .before .before .before .before .before .before .first-of .ensures) (c .before .before .before .before .before .count-of .ensures) (c .before .before .before .before .behind .ensures) (c .before .before .before .named .ensures) (rw (c .before .d .given .1)))
+    (λ c. field-type-is _ _ _ _ _ _ _ _ _ (c .before .before .before .before .before .before .first-of .ensures) (c .before .before .before .before .before .count-of .ensures) (c .before .before .before .before .behind .ensures) (c .before .before .before .named .ensures) (rw (c .before .x .given .1)))
     (λ c. field-type-is _ _ _ _ _ _ _ _ _ (c .before .before .before .before .before .first-of .ensures) (c .before .before .before .before .count-of .ensures) (c .before .before .before .behind .ensures) (c .before .before .named .ensures) (rw (c .enum-told .given .1))))

@@ -9,5 +9,5 @@ is-array-of-functions-spec =
     (λ c κs. search needs)
     (λ c κs. search needs)
     (λ c κs. search needs)
-    (λ c. array-elements _ _ _ _ (c .before .before .before .head .ensures) _ _ (c .before .before .if1 .taken) (c .before .number .ensures) (c .head2 .ensures))
+    (λ c. array-elements _ _ _ _ (c .before .before .before .head .ensures) _ _ (c .before .before .if1 .taken) (c .before .element .ensures) (c .head2 .ensures))
     (λ c. no-array _ _ _ _ (c .before .head .ensures) (c .if1 .left)))

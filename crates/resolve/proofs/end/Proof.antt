@@ -11,6 +11,6 @@ end-spec =
     (λ c κs. search needs)
     (λ c κs. search needs)
     (λ c. search needs)
-    (λ c. end-open _ _ _ ((c .before .before .before .before .before .before .before .before .before .follow .ensures)) ((c .before .before .before .before .before .before .before .head .ensures)) _ _ ((c .before .before .before .before .before .before .if1 .taken)) ((c .before .before .before .before .number .ensures)) ((c .before .before .open-type .ensures)))
+    (λ c. end-open _ _ _ ((c .before .before .before .before .before .before .before .before .before .follow .ensures)) ((c .before .before .before .before .before .before .before .head .ensures)) _ _ ((c .before .before .before .before .before .before .if1 .taken)) ((c .before .before .before .before .var-of .ensures)) ((c .before .before .open-type .ensures)))
     (λ c. search needs)
     (λ c. end-settled _ _ _ ((c .before .before .before .follow .ensures)) ((c .before .head .ensures)) ((c .if1 .left))))

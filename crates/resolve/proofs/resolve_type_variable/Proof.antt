@@ -13,6 +13,6 @@ resolve-type-variable-spec =
     (λ c κs. search needs)
     (λ c κs. search needs)
     (λ c. search needs)
-    (λ c. resolve-arr _ _ ((c .before .before .before .before .before .before .before .before .head .ensures)) _ _ ((c .before .before .before .before .before .before .if2 .taken)) ((c .before .before .before .before .number .ensures)) ((c .before .before .array .ensures)))
+    (λ c. resolve-arr _ _ ((c .before .before .before .before .before .before .before .before .head .ensures)) _ _ ((c .before .before .before .before .before .before .if2 .taken)) ((c .before .before .before .before .element .ensures)) ((c .before .before .array .ensures)))
     (λ c. search needs)
     (λ c. resolve-other _ _ ((c .before .before .head .ensures)) ((c .before .if1 .left)) ((c .if2 .left))))

@@ -10,7 +10,7 @@ callee-spec =
     (λ c κs. search needs)
     (λ c κs. search needs)
     (λ c. search needs)
-    (λ c. record { by = callee-def _ _ _ _ _ ((c .before .before .before .before .head .ensures)) _ _ ((c .before .before .before .if1 .taken)) ((c .before .number .ensures)) ((c .output .ensures)) })
+    (λ c. record { by = callee-def _ _ _ _ _ ((c .before .before .before .before .head .ensures)) _ _ ((c .before .before .before .if1 .taken)) ((c .before .def-of .ensures)) ((c .output .ensures)) })
     (λ c κs. search needs)
     (λ c. search needs)
     (λ c. record { by = callee-lambda _ _ _ _ _ ((c .before .before .before .before .head .ensures)) _ ((c .before .before .if2 .taken)) ((c .output2 .ensures)) })

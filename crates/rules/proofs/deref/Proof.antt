@@ -10,7 +10,7 @@ deref-spec =
     (λ c κs. search needs)
     (λ c κs. search needs)
     (λ c. search needs)
-    (λ c. typed-type (deref-ref _ _ _ ((c .before .before .before .head .ensures)) _ ((c .before .before .if1 .taken)) ((c .number .ensures))))
+    (λ c. typed-type (deref-ref _ _ _ ((c .before .before .before .head .ensures)) _ ((c .before .before .if1 .taken)) ((c .element .ensures))))
     (λ c κs. search needs)
     (λ c. search needs)
     (λ c. deref-other _ _ _ ((c .before .before .before .before .before .head .ensures)) ((c .before .before .before .before .if1 .left)) ((c .before .before .no-unary-op .ensures))))

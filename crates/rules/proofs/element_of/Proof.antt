@@ -9,7 +9,7 @@ element-of-spec =
     (λ c κs. search needs)
     (λ c κs. search needs)
     (λ c. search needs)
-    (λ c. record { by = element-there _ _ _ ((c .before .before .before .head .ensures)) _ ((c .before .before .if1 .taken)) ((c .number .ensures)) })
+    (λ c. record { by = element-there _ _ _ ((c .before .before .before .head .ensures)) _ ((c .before .before .if1 .taken)) ((c .element .ensures)) })
     (λ c κs. search needs)
     (λ c. search needs)
     (λ c. record { by = element-none _ _ _ ((c .before .before .before .before .before .head .ensures)) ((c .before .before .before .before .if1 .left)) ((c .before .before .own-error .ensures)) }))

@@ -12,7 +12,7 @@ field-spec =
     (λ c κs. search needs)
     (λ c κs. search needs)
     (λ c. search needs)
-    (λ c. field-inst _ _ _ _ _ _ ((c .before .before .before .before .before .before .before .before .head .ensures)) _ _ ((c .before .before .before .before .before .before .before .if1 .taken)) ((c .before .before .before .before .before .number .ensures)) ((c .before .before .before .before .field-type .ensures)) ((c .before .before .field-of .ensures)))
+    (λ c. field-inst _ _ _ _ _ _ ((c .before .before .before .before .before .before .before .before .head .ensures)) _ _ ((c .before .before .before .before .before .before .before .if1 .taken)) ((c .before .before .before .before .before .inst-of .ensures)) ((c .before .before .before .before .field-type .ensures)) ((c .before .before .field-of .ensures)))
     (λ c. search needs)
     (λ c. typed-type (field-err _ _ _ _ _ _ ((c .before .before .head .ensures)) ((c .if2 .taken))))
     (λ c κs. search needs)

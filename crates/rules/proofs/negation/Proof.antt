@@ -13,7 +13,7 @@ negation-spec =
     (λ c κs. search needs)
     (λ c κs. search needs)
     (λ c. search needs)
-    (λ c. typed-type (negate-variable _ _ _ ((c .before .before .before .before .before .before .before .before .head .ensures)) _ ((c .before .before .before .before .before .before .if2 .taken)) ((c .before .before .before .before .number .ensures)) ((c .before .before .mark .ensures))))
+    (λ c. typed-type (negate-variable _ _ _ ((c .before .before .before .before .before .before .before .before .head .ensures)) _ ((c .before .before .before .before .before .before .if2 .taken)) ((c .before .before .before .before .var-of .ensures)) ((c .before .before .mark .ensures))))
     (λ c κs. search needs)
     (λ c. search needs)
     (λ c. negate-other _ _ _ ((c .before .before .before .before .before .before .head .ensures)) ((c .before .before .before .before .before .if1 .left)) ((c .before .before .before .before .if2 .left)) ((c .before .before .no-unary-op .ensures))))

@@ -9,5 +9,5 @@ onward-spec =
     (λ c κs. search needs)
     (λ c κs. search needs)
     (λ c κs. search needs)
-    (λ c. onward-var _ _ _ _ _ _ (c .before .before .before .head .ensures) (c .before .before .if1 .taken) (c .before .number .ensures) (c .bound-to .ensures))
+    (λ c. onward-var _ _ _ _ _ _ (c .before .before .before .head .ensures) (c .before .before .if1 .taken) (c .before .var-of .ensures) (c .bound-to .ensures))
     (λ c. onward-other _ _ _ _ (c .before .head .ensures) (c .if1 .left)))

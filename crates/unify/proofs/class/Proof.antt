@@ -15,5 +15,5 @@ class-spec =
     (λ c. class-at ((c .before .before .before .args .m .now)) ((c .before .before .before .args .c)) ((c .before .before .before .args .z)) _ (c .before .head .ensures) Integer (λ q. omega (arith, (c .match .keys2))) (rw ((c .match .keys2))))
     (λ c. class-at ((c .before .before .before .args .m .now)) ((c .before .before .before .args .c)) ((c .before .before .before .args .z)) _ (c .before .head .ensures) Float (λ q. omega (arith, (c .match .keys3))) (rw ((c .match .keys3))))
     (λ c. class-at ((c .before .before .before .args .m .now)) ((c .before .before .before .args .c)) ((c .before .before .before .args .z)) _ (c .before .head .ensures) Float (λ q. omega (arith, (c .match .keys4))) (rw ((c .match .keys4))))
-    (λ c. class-var ((c .before .before .before .before .before .args .m .now)) ((c .before .before .before .before .before .args .c)) ((c .before .before .before .before .before .args .z)) _ (c .before .before .before .head .ensures) _ _ ((c .before .before .match .keys5)) (c .before .number .ensures) (c .kind-of .ensures))
+    (λ c. class-var ((c .before .before .before .before .before .args .m .now)) ((c .before .before .before .before .before .args .c)) ((c .before .before .before .before .before .args .z)) _ (c .before .before .before .head .ensures) _ _ ((c .before .before .match .keys5)) (c .before .var-of .ensures) (c .kind-of .ensures))
     (λ c. class-other ((c .before .before .before .args .m .now)) ((c .before .before .before .args .c)) ((c .before .before .before .args .z)) _ (c .before .head .ensures) (c .match .rest)))

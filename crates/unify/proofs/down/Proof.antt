@@ -11,5 +11,5 @@ down-spec =
     (λ c κs. search needs)
     (λ c κs. search needs)
     (λ c κs. search needs)
-    (λ c. down-on _ _ _ _ _ _ _ _ _ (c .before .before .before .before .before .head .ensures) (c .before .before .before .before .head2 .ensures) (c .before .before .before .both .ensures) (c .before .before .if1 .taken) (c .before .number .ensures) (c .number2 .ensures))
+    (λ c. down-on _ _ _ _ _ _ _ _ _ (c .before .before .before .before .before .head .ensures) (c .before .before .before .before .head2 .ensures) (c .before .before .before .both .ensures) (c .before .before .if1 .taken) (c .before .element .ensures) (c .element2 .ensures))
     (λ c. down-into _ _ _ _ _ _ _ (c .before .before .before .head .ensures) (c .before .before .head2 .ensures) (c .before .both .ensures) (c .if1 .left)))

@@ -11,7 +11,7 @@ pass-spec =
     (λ c κs. search needs)
     (λ c κs. search needs)
     (λ c. search needs)
-    (λ c. passed-on (c .before .before .before .before .before .before .before .before .before .before .before .before .before .args .m .now) (c .before .before .before .before .before .before .before .before .before .before .before .before .before .args .c) (c .before .before .before .before .before .before .before .before .before .before .before .before .before .args .v) (c .before .before .before .before .before .before .before .before .before .before .before .before .before .args .z) _ _ _ _ (c .before .before .before .before .before .before .before .before .before .before .is-marked .ensures) (c .before .before .before .before .before .before .before .before .before .if1 .taken) (c .before .before .before .before .before .before .before .head .ensures) (c .before .before .before .before .before .before .if2 .taken) (c .before .before .before .before .number .ensures) (c .before .before .mark .ensures))
+    (λ c. passed-on (c .before .before .before .before .before .before .before .before .before .before .before .before .before .args .m .now) (c .before .before .before .before .before .before .before .before .before .before .before .before .before .args .c) (c .before .before .before .before .before .before .before .before .before .before .before .before .before .args .v) (c .before .before .before .before .before .before .before .before .before .before .before .before .before .args .z) _ _ _ _ (c .before .before .before .before .before .before .before .before .before .before .is-marked .ensures) (c .before .before .before .before .before .before .before .before .before .if1 .taken) (c .before .before .before .before .before .before .before .head .ensures) (c .before .before .before .before .before .before .if2 .taken) (c .before .before .before .before .var-of .ensures) (c .before .before .mark .ensures))
     (λ c. search needs)
     (λ c. passed-other (c .before .before .before .before .before .before .before .args .m .now) (c .before .before .before .before .before .before .before .args .c) (c .before .before .before .before .before .before .before .args .v) (c .before .before .before .before .before .before .before .args .z) _ _ (c .before .before .before .before .is-marked .ensures) (c .before .before .before .if1 .taken) (c .before .head .ensures) (c .if2 .left))
     (λ c. search needs)

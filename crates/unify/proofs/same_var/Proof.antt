@@ -8,5 +8,5 @@ same-var-spec =
     tie.close (tie.spec
     (λ c κs. search needs)
     (λ c κs. search needs)
-    (λ c. same-yes ((c .before .before .before .before .args .m .now)) ((c .before .before .before .before .args .c)) ((c .before .before .before .before .args .z)) _ (c .before .before .head .ensures) _ _ (c .before .if1 .taken) (c .number .ensures))
+    (λ c. same-yes ((c .before .before .before .before .args .m .now)) ((c .before .before .before .before .args .c)) ((c .before .before .before .before .args .z)) _ (c .before .before .head .ensures) _ _ (c .before .if1 .taken) (c .var-of .ensures))
     (λ c. same-no ((c .before .before .before .args .m .now)) ((c .before .before .before .args .c)) ((c .before .before .before .args .z)) _ (c .before .head .ensures) _ (c .if1 .left)))
