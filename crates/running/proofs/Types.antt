@@ -50,9 +50,9 @@ abbrev pub ty-fits : (r : record-and-type.Given) → Fits the-given r → Fits t
 ty-fits r is = LL.owed Given.the-type given-laws.the-laws r _ is .1 .0
 
 -- a `Given` by its parts
-abbrev pub given : running.Record → numbers.TypeId → record-and-type.Given
-given c t = record { «record» = c; ty = t }
+abbrev pub given-of : running.Record → numbers.TypeId → record-and-type.Given
+given-of c t = record { «record» = c; ty = t }
 
 -- what is known of it
-abbrev pub given-fits : (c : running.Record) (t : numbers.TypeId) → Fits the-record c → Fits the-ty t → Fits the-given (given c t)
-given-fits c t gc gt = LL.owes Given.the-type given-laws.the-laws (given c t) (gc, (gt, tt))
+abbrev pub given-fits : (c : running.Record) (t : numbers.TypeId) → Fits the-record c → Fits the-ty t → Fits the-given (given-of c t)
+given-fits c t gc gt = LL.owes Given.the-type given-laws.the-laws (given-of c t) (gc, (gt, tt))
