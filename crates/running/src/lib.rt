@@ -4,12 +4,17 @@
 ghost use Rattle.type_table.specs.Memory.{kindOf, numbered};
 ghost use Rattle.type_table.specs.Made.{originNumber};
 ghost use Rattle.type_table.specs.Made.{kindNumber as kindCode};
-ghost use Rattle.record.specs.Steps.{new-infer-var, array-of, error};
+ghost use Rattle.nodes.specs.Nodes.{itemsOf};
+ghost use Rattle.record.specs.Steps.{new-infer-var, array-of, ref-to, fn-def, make-lambda, make-function, error};
 ghost use Rattle.record.specs.Encodes.{Runs, Gives};
+use nodes::Items;
 use record::Given;
 use record::Record;
 use record::TypingError;
+use type_table::DefId;
+use type_table::InstId;
 use type_table::Kind;
+use type_table::NodeId;
 use type_table::Origin;
 use type_table::TypeId;
 
@@ -31,6 +36,70 @@ pub fn append_array(m: &mut [u16], c: &mut Record, e: TypeId) -> TypeId
 {
     let d = *c;
     let r = record::array_of(m, d, e);
+    *c = r.record;
+    r.ty
+}
+
+// The type reference to e: one type more, unless it is there.
+pub fn append_ref(m: &mut [u16], c: &mut Record, e: TypeId) -> TypeId
+    ensures { λ r. ⌜ Runs (now (m .entry)) (now (c .entry)) (now (m .exit)) (now (c .exit)) (ref-to (e .0)) (r .0) ⌝ }
+{
+    let d = *c;
+    let r = record::ref_to(m, d, e);
+    *c = r.record;
+    r.ty
+}
+
+// The type of a definition: one type more, unless it is there.
+pub fn append_fn_def(m: &mut [u16], c: &mut Record, f: DefId) -> TypeId
+    ensures { λ r. ⌜ Runs (now (m .entry)) (now (c .entry)) (now (m .exit)) (now (c .exit)) (fn-def (f .0)) (r .0) ⌝ }
+{
+    let d = *c;
+    let r = record::fn_def(m, d, f);
+    *c = r.record;
+    r.ty
+}
+
+// The type of an instance: one type more, unless it is there.
+pub fn append_instance(m: &mut [u16], c: &mut Record, k: InstId) -> TypeId
+    ensures { λ r. ⌜ Runs (now (m .entry)) (now (c .entry)) (now (m .exit)) (now (c .exit)) (Rattle.record.specs.Steps.instance (k .0)) (r .0) ⌝ }
+{
+    let d = *c;
+    let r = record::instance(m, d, k);
+    *c = r.record;
+    r.ty
+}
+
+// The type of the lambda of a node, with the types of its params as inputs: one type more. If the output is no type, the answer is row 0.
+pub fn append_lambda(
+    cells: &[u16],
+    m: &mut [u16],
+    c: &mut Record,
+    n: NodeId,
+    o: TypeId,
+    p: Items,
+) -> TypeId
+    ensures { λ r. ⌜ Runs (now (m .entry)) (now (c .entry)) (now (m .exit)) (now (c .exit)) (make-lambda (n .0) (o .0) (itemsOf (now (cells .entry)) p)) (r .0) ⌝ }
+{
+    let d = *c;
+    let r = record::lambda(cells, m, d, n, o, p);
+    *c = r.record;
+    r.ty
+}
+
+// The type of functions of a SPAN: one type more. If the output is no type, the answer is row 0.
+pub fn append_function(
+    cells: &[u16],
+    m: &mut [u16],
+    c: &mut Record,
+    span: u16,
+    o: TypeId,
+    p: Items,
+) -> TypeId
+    ensures { λ r. ⌜ Runs (now (m .entry)) (now (c .entry)) (now (m .exit)) (now (c .exit)) (make-function span (o .0) (itemsOf (now (cells .entry)) p)) (r .0) ⌝ }
+{
+    let d = *c;
+    let r = record::function(cells, m, d, span, o, p);
     *c = r.record;
     r.ty
 }
@@ -61,6 +130,51 @@ pub fn array_of(m: &mut [u16], c: Record, e: TypeId) -> Given
 {
     let mut d = c;
     let t = append_array(m, &mut d, e);
+    Given { record: d, ty: t }
+}
+
+// The type reference to e.
+pub fn ref_to(m: &mut [u16], c: Record, e: TypeId) -> Given
+    ensures { λ r. ⌜ Gives (now (m .entry)) c (now (m .exit)) r (ref-to (e .0)) ⌝ }
+{
+    let mut d = c;
+    let t = append_ref(m, &mut d, e);
+    Given { record: d, ty: t }
+}
+
+// The type of a definition.
+pub fn fn_def(m: &mut [u16], c: Record, f: DefId) -> Given
+    ensures { λ r. ⌜ Gives (now (m .entry)) c (now (m .exit)) r (fn-def (f .0)) ⌝ }
+{
+    let mut d = c;
+    let t = append_fn_def(m, &mut d, f);
+    Given { record: d, ty: t }
+}
+
+// The type of an instance.
+pub fn instance(m: &mut [u16], c: Record, k: InstId) -> Given
+    ensures { λ r. ⌜ Gives (now (m .entry)) c (now (m .exit)) r (Rattle.record.specs.Steps.instance (k .0)) ⌝ }
+{
+    let mut d = c;
+    let t = append_instance(m, &mut d, k);
+    Given { record: d, ty: t }
+}
+
+// The type of the lambda of a node, with the types of its params as inputs. If the output is no type, the answer is row 0.
+pub fn lambda(cells: &[u16], m: &mut [u16], c: Record, n: NodeId, o: TypeId, p: Items) -> Given
+    ensures { λ r. ⌜ Gives (now (m .entry)) c (now (m .exit)) r (make-lambda (n .0) (o .0) (itemsOf (now (cells .entry)) p)) ⌝ }
+{
+    let mut d = c;
+    let t = append_lambda(cells, m, &mut d, n, o, p);
+    Given { record: d, ty: t }
+}
+
+// The type of functions of a SPAN. If the output is no type, the answer is row 0.
+pub fn function(cells: &[u16], m: &mut [u16], c: Record, span: u16, o: TypeId, p: Items) -> Given
+    ensures { λ r. ⌜ Gives (now (m .entry)) c (now (m .exit)) r (make-function span (o .0) (itemsOf (now (cells .entry)) p)) ⌝ }
+{
+    let mut d = c;
+    let t = append_function(cells, m, &mut d, span, o, p);
     Given { record: d, ty: t }
 }
 
