@@ -1,13 +1,17 @@
 // The record of the walk, lent by `&mut`, as `FunCx` updates it: each function over `&mut Record` copies the record, calls the covered
 // function of `record` and stores the record that comes back. Above each stands a function with plain parameters, whose contract is that
-// of `record`'s: the typing rules call those. All six are proved by a walk of their MIR, by hand.
+// of `record`'s: the typing rules call those. All of these are proved by a walk of their MIR, by hand. `equate` stands above them: the error
+// of an equation that failed is appended in the lent record like any other.
+ghost use mathlib.Core.Path.{_≡_};
+ghost use Rattle.theory.specs.Rules.{mismatch};
 ghost use Rattle.type_table.specs.Memory.{kindOf, numbered};
 ghost use Rattle.type_table.specs.Made.{originNumber};
 ghost use Rattle.type_table.specs.Made.{kindNumber as kindCode};
 ghost use Rattle.nodes.specs.Nodes.{itemsOf};
-ghost use Rattle.record.specs.Steps.{new-infer-var, array-of, ref-to, fn-def, make-lambda, make-function, error};
-ghost use Rattle.record.specs.Encodes.{Runs, Gives};
+ghost use Rattle.record.specs.Steps.{new-infer-var, array-of, ref-to, fn-def, make-lambda, make-function, error, equation};
+ghost use Rattle.record.specs.Encodes.{Runs, Gives, Equates};
 use nodes::Items;
+use record::Equated;
 use record::Given;
 use record::Record;
 use record::TypingError;
@@ -185,4 +189,42 @@ pub fn emit(m: &mut [u16], c: Record, e: TypingError) -> Record
     let mut d = c;
     append_error(m, &mut d, e);
     d
+}
+
+// ── equations ──
+
+// An error with the CAUSE of a failed equation.
+fn caused(e: TypingError) -> TypingError
+    ensures { λ r. ⌜ r ≡ Rattle.record.specs.Steps.caused e mismatch ⌝ }
+{
+    let k = e.kind;
+    let at = e.at;
+    let second = e.second;
+    let a = e.a;
+    let b = e.b;
+    let third = e.c;
+    TypingError {
+        kind: k,
+        cause: 1,
+        at: at,
+        second: second,
+        a: a,
+        b: b,
+        c: third,
+    }
+}
+
+// Raises, in the rule of the node n, the equation of the rows x, expected, and y, got; a mismatch emits the error e.
+pub fn equate(m: &mut [u16], c: Record, n: NodeId, x: TypeId, y: TypeId, e: TypingError) -> Equated
+    ensures { λ r. ⌜ Equates (now (m .entry)) c (now (m .exit)) (n .0) r (equation (n .0) (x .0) (y .0) e) ⌝ }
+{
+    match record::raise(m, c, n, x, y) {
+        Equated::Met(d) => Equated::Met(d),
+        Equated::Failed(d) => {
+            let f = caused(e);
+            let r = emit(m, d, f);
+            Equated::Failed(r)
+        }
+        Equated::Refused(k, d) => Equated::Refused(k, d),
+    }
 }
