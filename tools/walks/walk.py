@@ -96,6 +96,17 @@ class Walk:
         self.put(f'frees-all ! {len(want) - len(order)} ({"".join("full _ ∷ " for i in range(self.n))}[]) refl $ '); self.nl()
         self.put(f'keep ! {lst(range(len(keep)))} $ by ! ({exits})' + ')' * self.open)
         self.open = 0
+    # the same one by one, wherever they lie; what is kept is put in order
+    def ends(self, keep):
+        self.nl()
+        self.put(f'returns ! (look ! {self.at("_0")} refl) $ ')
+        for i in range(self.n):
+            self.put(f'ends ! {self.at("_%d" % i)} refl refl $ ')
+            k = self.at(f'_{i}'); assert self.ctx[k + 1] == f'd{i}', self.ctx
+            del self.ctx[k:k + 2]
+        self.put('free0 ! $ '); self.nl()
+        self.put(f'keep ! {lst([self.at(k) for k in keep])} $ '); self.nl()
+        self.ctx = list(keep)
     def leave(self, keep, exits):
         self.nl()
         self.put(f'returns ! (look ! {self.at("_0")} refl) $ ')

@@ -20,13 +20,12 @@ use Rattle.unify.specs.Promise.{Frame, Solved, SolvedBy, answerIs, solveIn}
 use Rattle.unify.specs.Keeps.{held-sound, never-dry, unify-sound, unify-step}
 use Rattle.record.specs.declared.Record.{Record}
 use Rattle.record.specs.declared.TypingError.{TypingError}
-use Rattle.record.specs.declared.Equated.{Equated}
 use Rattle.record.specs.declared.Equated.the-variants as equated
 use Rattle.record.specs.Own.{log-at, most-errors}
 use Rattle.record.specs.Steps.{State, caused, error, equation}
-use Rattle.record.specs.Encodes.{answerNumber, answerWord, Logged, Encodes, Fits, Runs, Equates}
+use Rattle.record.specs.Encodes.{answerNumber, answerWord, Logged, Encodes, Fits, Runs, Raises}
 use Rattle.record.specs.Runs.{encodes-refused}
-use Rattle.record.specs.Answers.{oneEquation, logWritten, Logs, Fails}
+use Rattle.record.specs.Answers.{oneEquation, logWritten, Logs}
 use Rattle.record.specs.Behind.{Behind, behind-sound, behind-state}
 use Rattle.record.specs.Regions.{own-kept, errors-kept, logged-kept, length-errors}
 use Rattle.record.specs.InTables.{InTables, tables-frame}
@@ -104,6 +103,11 @@ out-of dry h = absurd h
 fits-before : (e : TypingError) (s : State) → Fits (emitted e s) → Fits s
 unfolding emitted
 fits-before e s f = record { rows = f .rows; vars = f .vars; inputs = f .inputs; errors = omega (arith, f .errors); equations = f .equations }
+
+-- one error more, from where the state is held
+emitted-held : (s : State) (e : TypingError) {m m′ : List ℕ} {c c′ : Record} → (Fits s → Encodes m c s) → Runs m c m′ c′ (error e) tt → Fits (emitted e s) → Encodes m′ c′ (emitted e s)
+unfolding error run
+emitted-held s e holds emits f = emits .ran s (holds (fits-before e s f)) f .1
 
 -- where the end of a walk fits, its state fits
 fits-refused : (k n : ℕ) (s : State) → Fits (refused k n s) → Fits s
@@ -210,47 +214,32 @@ module _ (m w : List ℕ) (c : Record) (n : ℕ) (x y : TypeId) (r : Answer) (p 
   numbered s e q = ap (λ (a : Out). answerWord (answerNumber a) n) (sym (ap outOf q) ∙ answer e)
 
   -- the equation is met
-  pub equation-met : r ≡ Success → (err : TypingError) (m′ : List ℕ) (d : Record) → Logs w c (x .0) (y .0) (answerWord 0 n) m′ d → Equates m c m′ n (equated.Met d) (equation n (x .0) (y .0) err)
-  equation-met q err m′ d logs = record {
-    by = record {
+  pub equation-met : r ≡ Success → (m′ : List ℕ) (d : Record) → Logs w c (x .0) (y .0) (answerWord 0 n) m′ d → Raises m c m′ n (x .0) (y .0) (equated.Met d)
+  equation-met q m′ d logs = record {
+    by = λ err. record {
       ran = λ s e f. let h : run (equation n (x .0) (y .0) err) s ≡ (some true, after s) = rw q at (reacts e err) in
           rw h (refl, noted e (rw h at f) m′ d (answerWord 0 n) logs (numbered s e q));
     };
   }
 
-  -- the error of an equation that failed
-  failing : {s : State} (e : Encodes m c s) (err : TypingError) (m′ : List ℕ) (d : Record) → answerWord (answerNumber mismatch) n ≡ answerWord (answerNumber ((result s) .0)) n → Fails w c n (x .0) (y .0) err m′ (equated.Failed d) → Fits (emitted (caused err mismatch) (after s)) → Encodes m′ d (emitted (caused err mismatch) (after s))
-  unfolding error run raised
-  failing {s} e err m′ d q fails f =
-      let g : Fits (after s) = fits-before (caused err mismatch) (after s) f in
-      fails (omega (arith, e .equations, g .equations)) .ran (after s) (noted e g (logWritten w c (x .0) (y .0) (answerWord (answerNumber mismatch) n)) (oneEquation c) (answerWord (answerNumber mismatch) n) (λ h. (refl, refl)) q) f .1
-
   -- the equation failed
-  pub equation-mismatch : r ≡ Mismatch → (err : TypingError) (m′ : List ℕ) (z : Equated) → Fails w c n (x .0) (y .0) err m′ z → Equates m c m′ n z (equation n (x .0) (y .0) err)
-  equation-mismatch q err m′ (equated.Met d) h = absurd h
-  equation-mismatch q err m′ (equated.Failed d) h = record {
-    by = record {
-      ran = λ s e f. let g : run (equation n (x .0) (y .0) err) s ≡ (some false, emitted (caused err mismatch) (after s)) = rw q at (reacts e err) in
-          rw g (refl, failing e err m′ d (numbered s e q) h (rw g at f));
+  pub equation-mismatch : r ≡ Mismatch → (m′ : List ℕ) (d : Record) → Logs w c (x .0) (y .0) (answerWord 1 n) m′ d → Raises m c m′ n (x .0) (y .0) (equated.Failed d)
+  equation-mismatch q m′ d logs = record {
+    by = λ err m₂ d₂ emits. record {
+      ran = λ s e f. let h : run (equation n (x .0) (y .0) err) s ≡ (some false, emitted (caused err mismatch) (after s)) = rw q at (reacts e err) in
+          rw h (refl, emitted-held (after s) (caused err mismatch) (λ g. noted e g m′ d (answerWord 1 n) logs (numbered s e q)) emits (rw h at f));
     };
   }
-  equation-mismatch q err m′ (equated.Refused a d) h = absurd h
 
-  module _ (k : ℕ) (err : TypingError) (is : (s : State) → Encodes m c s → answerWord k n ≡ answerWord (answerNumber ((result s) .0)) n) where
+  module _ (k : ℕ) (is : (s : State) → Encodes m c s → answerWord k n ≡ answerWord (answerNumber ((result s) .0)) n) where
     -- the equation is refused with k
-    refused-by : ((s : State) → Encodes m c s → run (equation n (x .0) (y .0) err) s ≡ (none, refused k n (after s))) → (m′ : List ℕ) (d : Record) → Logs w c (x .0) (y .0) (answerWord k n) m′ d → Equates m c m′ n (equated.Refused k d) (equation n (x .0) (y .0) err)
-    refused-by g m′ d logs = record { by = record { stopped = λ s e f. rw (g s e) (refl, stops-with k n (after s), encodes-refused k n (noted e (fits-refused k n (after s) (rw (g s e) at f)) m′ d (answerWord k n) logs (is s e))) } }
+    refused-by : ((err : TypingError) (s : State) → Encodes m c s → run (equation n (x .0) (y .0) err) s ≡ (none, refused k n (after s))) → (m′ : List ℕ) (d : Record) → Logs w c (x .0) (y .0) (answerWord k n) m′ d → Raises m c m′ n (x .0) (y .0) (equated.Refused k d)
+    refused-by g m′ d logs = record { by = λ err. record { stopped = λ s e f. rw (g err s e) (refl, stops-with k n (after s), encodes-refused k n (noted e (fits-refused k n (after s) (rw (g err s e) at f)) m′ d (answerWord k n) logs (is s e))) } }
 
   -- the equation is refused with 12
-  pub equation-12 : r ≡ Refused12 → (err : TypingError) (m′ : List ℕ) (d : Record) → Logs w c (x .0) (y .0) (answerWord 12 n) m′ d → Equates m c m′ n (equated.Refused 12 d) (equation n (x .0) (y .0) err)
-  equation-12 q err = refused-by 12 err (λ s e. numbered s e q) (λ s e. rw q at (reacts e err))
+  pub equation-12 : r ≡ Refused12 → (m′ : List ℕ) (d : Record) → Logs w c (x .0) (y .0) (answerWord 12 n) m′ d → Raises m c m′ n (x .0) (y .0) (equated.Refused 12 d)
+  equation-12 q = refused-by 12 (λ s e. numbered s e q) (λ err s e. rw q at (reacts e err))
 
   -- the equation is refused with 13
-  pub equation-13 : r ≡ Refused13 → (err : TypingError) (m′ : List ℕ) (d : Record) → Logs w c (x .0) (y .0) (answerWord 13 n) m′ d → Equates m c m′ n (equated.Refused 13 d) (equation n (x .0) (y .0) err)
-  equation-13 q err = refused-by 13 err (λ s e. numbered s e q) (λ s e. rw q at (reacts e err))
-
--- ── the error of a failed equation ──
-
--- the equation is logged and its error emitted
-pub failed-fails : (m w m′ : List ℕ) (c d z : Record) (n x y : ℕ) (err row : TypingError) → row ≡ caused err mismatch → Logs m c x y (answerWord (answerNumber mismatch) n) w d → Runs w d m′ z (error row) tt → Fails m c n x y err m′ (equated.Failed z)
-failed-fails m w m′ c d z n x y err row q logs runs h = let g = logs h in rw (g .0, g .1, q) at runs
+  pub equation-13 : r ≡ Refused13 → (m′ : List ℕ) (d : Record) → Logs w c (x .0) (y .0) (answerWord 13 n) m′ d → Raises m c m′ n (x .0) (y .0) (equated.Refused 13 d)
+  equation-13 q = refused-by 13 (λ s e. numbered s e q) (λ err s e. rw q at (reacts e err))

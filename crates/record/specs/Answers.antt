@@ -4,17 +4,12 @@ use mathlib.Core.List.{List, [], _∷_}
 use mathlib.Core.Option.{none}
 use Prim.Native.Nat.{ℕ, _+_, _*_, _<_}
 use lib.ListN.{getD, set}
-use Rattle.theory.specs.Rules.{mismatch}
 use Rattle.theory.specs.Program.{clip}
 use Rattle.type_table.specs.declared.Counts.{Counts}
 use Rattle.type_table.specs.Made.{Counting, pushed, pushIn}
 use Rattle.record.specs.declared.Record.{Record}
-use Rattle.record.specs.declared.TypingError.{TypingError}
-use Rattle.record.specs.declared.Equated.{Equated}
-use Rattle.record.specs.declared.Equated.the-variants as equated
 use Rattle.record.specs.Own.{log-at, rawsOf}
-use Rattle.record.specs.Steps.{orNil, caused, error}
-use Rattle.record.specs.Encodes.{answerNumber, answerWord, Runs}
+use Rattle.record.specs.Steps.{orNil}
 
 -- ── types ──
 
@@ -42,9 +37,3 @@ logWritten m c x y a =
 -- an equation is logged with this third cell, where it can be counted
 abbrev pub Logs : List ℕ → Record → ℕ → ℕ → ℕ → List ℕ → Record → Type 0
 Logs m c x y a m′ d = c .equations < 65535 → (m′ ≡ logWritten m c x y a) × (d ≡ oneEquation c)
-
--- a mismatch in the rule of the node n is logged, and its error emitted
-abbrev pub Fails : List ℕ → Record → ℕ → ℕ → ℕ → TypingError → List ℕ → Equated → Type 0
-Fails m c n x y e m′ (equated.Met d) = ⊥
-Fails m c n x y e m′ (equated.Failed d) = c .equations < 65535 → Runs (logWritten m c x y (answerWord (answerNumber mismatch) n)) (oneEquation c) m′ d (error (caused e mismatch)) tt
-Fails m c n x y e m′ (equated.Refused k d) = ⊥

@@ -11,6 +11,7 @@ use Rattle.type_table.specs.Memory.{cell, most-types, most-vars, most-inputs}
 use Rattle.type_table.specs.Sound.{Sound, stateOf}
 use Rattle.record.specs.declared.Record.{Record}
 use Rattle.record.specs.declared.Given.{Given}
+use Rattle.record.specs.declared.TypingError.{TypingError}
 use Rattle.record.specs.declared.Equated.{Equated}
 use Rattle.record.specs.declared.Equated.the-variants as equated
 use Rattle.record.specs.declared.Typed.{Typed}
@@ -18,7 +19,7 @@ use Rattle.record.specs.declared.Typed.the-variants as typed
 use Rattle.record.specs.declared.Ruled.{Ruled}
 use Rattle.record.specs.declared.Ruled.the-variants as ruled
 use Rattle.record.specs.Own.{most-errors, log-at, ownOf, errorsOf}
-use Rattle.record.specs.Steps.{State, Walk, Step}
+use Rattle.record.specs.Steps.{State, Walk, Step, caused, error, equation}
 
 -- ── what is in the memory ──
 
@@ -137,3 +138,13 @@ EquatesBy m c m′ n (equated.Refused k d) p = Stops m c m′ d p k n
 -- an equation in the rule of the node n
 pub record Equates (m : List ℕ) (c : Record) (m′ : List ℕ) (n : ℕ) (r : Equated) (p : Walk Bool) : Type 0 where
   pub by : EquatesBy m c m′ n r p
+
+-- by the answer: the program `equation` with any error e; where it failed, once that error is emitted
+abbrev pub RaisesBy : List ℕ → Record → List ℕ → ℕ → ℕ → ℕ → Equated → TypingError → Type 0
+RaisesBy m c m′ n x y (equated.Met d) e = Runs m c m′ d (equation n x y e) true
+RaisesBy m c m′ n x y (equated.Failed d) e = (m₂ : List ℕ) (d₂ : Record) → Runs m′ d m₂ d₂ (error (caused e mismatch)) tt → Runs m c m₂ d₂ (equation n x y e) false
+RaisesBy m c m′ n x y (equated.Refused k d) e = Stops m c m′ d (equation n x y e) k n
+
+-- the equation of x, expected, and y, got, is raised in the rule of the node n, and the error of one that failed is still to be emitted
+pub record Raises (m : List ℕ) (c : Record) (m′ : List ℕ) (n x y : ℕ) (r : Equated) : Type 0 where
+  pub by : (e : TypingError) → RaisesBy m c m′ n x y r e

@@ -12,10 +12,10 @@ ghost use Rattle.type_table.specs.Made.{kindNumber as kindCode};
 ghost use Rattle.type_table.specs.Sound.{fixed-types};
 ghost use Rattle.nodes.specs.Nodes.{itemsOf};
 ghost use Rattle.record.specs.Own.{errors-at, log-at, rawsOf, blank, nodeType, resTag, resValue, extraTag, extraValue, kindNumber, spanTag, spanValue, secondTag, secondValue, errorWritten};
-ghost use Rattle.record.specs.Steps.{orNil, set-node-type, set-extra, set-final, new-infer-var, array-of, ref-to, fn-def, make-lambda, make-function, mark-var, error, equation};
-ghost use Rattle.record.specs.Encodes.{answerWord, Encodes, Runs, Does, Gives, Equates};
+ghost use Rattle.record.specs.Steps.{orNil, set-node-type, set-extra, set-final, new-infer-var, array-of, ref-to, fn-def, make-lambda, make-function, mark-var, error};
+ghost use Rattle.record.specs.Encodes.{answerWord, Encodes, Runs, Does, Gives, Raises};
 ghost use Rattle.record.specs.Operations.{withMade, node-cells, cleared};
-ghost use Rattle.record.specs.Answers.{typeIn, pushAll, Logs, Fails};
+ghost use Rattle.record.specs.Answers.{typeIn, pushAll, Logs};
 use nodes::Items;
 use nodes::Res;
 use type_table::Counts;
@@ -361,43 +361,16 @@ fn log(m: &mut [u16], c: Record, n: NodeId, x: TypeId, y: TypeId, answer: u16) -
     }
 }
 
-// How an equation went: it was met; it failed, and its error is emitted; it is refused with this number.
+// How an equation went, with the record: it was met; it failed; it is refused with this number.
 pub enum Equated {
     Met(Record),
     Failed(Record),
     Refused(u8, Record),
 }
 
-// A mismatch, logged, and its error with CAUSE 1.
-fn failed(m: &mut [u16], c: Record, n: NodeId, x: TypeId, y: TypeId, e: TypingError) -> Equated
-    ensures { λ r. ⌜ Fails (now (m .entry)) c (n .0) (x .0) (y .0) e (now (m .exit)) r ⌝ }
-{
-    let k = e.kind;
-    let at = e.at;
-    let second = e.second;
-    let a = e.a;
-    let b = e.b;
-    let third = e.c;
-    let d = log(m, c, n, x, y, 1);
-    let r = emit(
-        m,
-        d,
-        TypingError {
-            kind: k,
-            cause: 1,
-            at: at,
-            second: second,
-            a: a,
-            b: b,
-            c: third,
-        },
-    );
-    Equated::Failed(r)
-}
-
-// Raises, in the rule of the node n, the equation of the rows x, expected, and y, got; a mismatch emits the error e.
-pub fn equate(m: &mut [u16], c: Record, n: NodeId, x: TypeId, y: TypeId, e: TypingError) -> Equated
-    ensures { λ r. ⌜ Equates (now (m .entry)) c (now (m .exit)) (n .0) r (equation (n .0) (x .0) (y .0) e) ⌝ }
+// Raises, in the rule of the node n, the equation of the rows x, expected, and y, got. The error of a mismatch is still to be emitted.
+pub fn raise(m: &mut [u16], c: Record, n: NodeId, x: TypeId, y: TypeId) -> Equated
+    ensures { λ r. ⌜ Raises (now (m .entry)) c (now (m .exit)) (n .0) (x .0) (y .0) r ⌝ }
 {
     let d = c.counts;
     match unify::unify(m, d, x, y) {
@@ -405,7 +378,10 @@ pub fn equate(m: &mut [u16], c: Record, n: NodeId, x: TypeId, y: TypeId, e: Typi
             let r = log(m, c, n, x, y, 0);
             Equated::Met(r)
         }
-        Answer::Mismatch => failed(m, c, n, x, y, e),
+        Answer::Mismatch => {
+            let r = log(m, c, n, x, y, 1);
+            Equated::Failed(r)
+        }
         Answer::Refused12 => {
             let r = log(m, c, n, x, y, 12);
             Equated::Refused(12, r)

@@ -52,15 +52,15 @@ fn declare_type(rows: &[u16], cells: &[u16], m: &mut [u16], c: Record, i: u16) -
             return given_record(r);
         }
         nodes::TypeRow::Fun(s, o, t) => {
-            let r = record::function(cells, m, c, s, o, t);
+            let r = running::function(cells, m, c, s, o, t);
             return given_record(r);
         }
         nodes::TypeRow::Inst(k) => {
-            let r = record::instance(m, c, k);
+            let r = running::instance(m, c, k);
             return given_record(r);
         }
         nodes::TypeRow::Fn(d) => {
-            let r = record::fn_def(m, c, d);
+            let r = running::fn_def(m, c, d);
             return given_record(r);
         }
     }
@@ -113,7 +113,7 @@ fn result(m: &mut [u16], c: Record, n: NodeId, y: TypeId) -> Ruled
     let x = c.output;
     let a = x.0;
     let b = y.0;
-    match record::equate(
+    match running::equate(
         m,
         c,
         n,

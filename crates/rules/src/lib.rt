@@ -121,7 +121,7 @@ fn equate_for(
 ) -> Typed
     ensures { λ r. ⌜ Types (now (m .entry)) c (now (m .exit)) r (equate-for (n .0) (x .0) (y .0) e (t .0)) ⌝ }
 {
-    match record::equate(m, c, n, x, y, e) {
+    match running::equate(m, c, n, x, y, e) {
         Equated::Met(d) => Typed::Type(d, t),
         Equated::Failed(d) => Typed::Type(d, t),
         Equated::Refused(k, d) => Typed::Refused(k, d, n),
@@ -132,7 +132,7 @@ fn equate_for(
 fn equate_on(m: &mut [u16], c: Record, n: NodeId, x: TypeId, y: TypeId, e: TypingError) -> Ruled
     ensures { λ r. ⌜ Rules (now (m .entry)) c (now (m .exit)) r (equate-on (n .0) (x .0) (y .0) e) ⌝ }
 {
-    match record::equate(m, c, n, x, y, e) {
+    match running::equate(m, c, n, x, y, e) {
         Equated::Met(d) => Ruled::Done(d),
         Equated::Failed(d) => Ruled::Done(d),
         Equated::Refused(k, d) => Ruled::Refused(k, d, n),
@@ -176,7 +176,7 @@ pub fn bin_op(
 ) -> Typed
     ensures { λ z. ⌜ Types (now (m .entry)) c (now (m .exit)) z (bin-op (n .0) o (l .0) (r .0) (x .0) (y .0)) ⌝ }
 {
-    match record::equate(m, c, n, x, y, between(ErrorKind::NoBinaryOp, l, r, x, y)) {
+    match running::equate(m, c, n, x, y, between(ErrorKind::NoBinaryOp, l, r, x, y)) {
         Equated::Met(d) => Typed::Type(d, bin_type(o, x)),
         Equated::Failed(d) => Typed::Type(d, TypeId(ERR)),
         Equated::Refused(k, d) => Typed::Refused(k, d, n),
@@ -206,7 +206,7 @@ fn deref(m: &mut [u16], c: Record, e: NodeId, x: TypeId) -> Typed
 fn address(m: &mut [u16], c: Record, x: TypeId) -> Typed
     ensures { λ r. ⌜ Types (now (m .entry)) c (now (m .exit)) r (ref-to (x .0)) ⌝ }
 {
-    let r = record::ref_to(m, c, x);
+    let r = running::ref_to(m, c, x);
     let d = r.record;
     let t = r.ty;
     Typed::Type(d, t)
@@ -471,7 +471,7 @@ pub fn let_without_init(m: &mut [u16], c: Record, n: NodeId, t: MaybeType) -> Ru
 fn let_declared(m: &mut [u16], c: Record, n: NodeId, x: TypeId, y: TypeId) -> Ruled
     ensures { λ r. ⌜ Rules (now (m .entry)) c (now (m .exit)) r (let-with-init (n .0) (type.Of x) (y .0)) ⌝ }
 {
-    match record::equate(
+    match running::equate(
         m,
         c,
         n,
@@ -677,7 +677,7 @@ pub fn lambda_output(m: &mut [u16], c: Record, n: NodeId, t: MaybeType) -> Given
 fn lambda_type(cells: &[u16], m: &mut [u16], c: Record, n: NodeId, o: TypeId, t: Items) -> Typed
     ensures { λ r. ⌜ Types (now (m .entry)) c (now (m .exit)) r (make-lambda (n .0) (o .0) (itemsOf (now (cells .entry)) t)) ⌝ }
 {
-    let r = record::lambda(cells, m, c, n, o, t);
+    let r = running::lambda(cells, m, c, n, o, t);
     let d = r.record;
     let x = r.ty;
     Typed::Type(d, x)
@@ -714,7 +714,7 @@ pub fn lambda(
 fn fn_type(m: &mut [u16], c: Record, f: DefId) -> Typed
     ensures { λ r. ⌜ Types (now (m .entry)) c (now (m .exit)) r (fn-def (f .0)) ⌝ }
 {
-    let r = record::fn_def(m, c, f);
+    let r = running::fn_def(m, c, f);
     let d = r.record;
     let t = r.ty;
     Typed::Type(d, t)
@@ -732,7 +732,7 @@ fn type_res(m: &mut [u16], c: Record, n: NodeId, r: Res) -> Typed
         Res::Fn(d) => fn_type(m, c, d),
         Res::Ctor(d) => fn_type(m, c, d),
         Res::Inst(k) => {
-            let g = record::instance(m, c, k);
+            let g = running::instance(m, c, k);
             let d = g.record;
             let t = g.ty;
             Typed::Type(d, t)

@@ -15,9 +15,9 @@ use prog.Routine.{Routine}
 use prog.Wp.{Heap, Calls, Loops, WpFn}
 use ghost.Atoms.{Atoms}
 use contract.Monad.{Fun}
-use contract.Running.{givenOf, tables}
+use contract.Running.{givenOf, tables as tables-of}
 use types.Kit.{Given, ‵, _⊛_, _$_, _∵_, !, qed, by, move, keep, suffices}
-use types.Run.{look, look-raw, store-raw, init, stop, hop, fld, from, load, addr, of-opd, and-then, no-more, assigns, land, returns, enter, alloc1, alloc0, params1, pass1, pass0, free0}
+use types.Run.{look, look-raw, init, store-raw, stop, hop, fld, from, load, addr, of-opd, and-then, no-more, assigns, land, returns, enter, alloc1, alloc0, params1, pass1, pass0, free0}
 use types.Part.{agg, whole, sub, look-in}
 use sound.WpLaws.{FmC}
 use denote.RattleType.{owns}
@@ -29,21 +29,21 @@ use denote.Triple.Spec.{tripleOf}
 use denote.Triple.Statement.{Contract, Triple}
 use denote.Triple.Clauses.{lasts}
 use denote.Triple.Table.{cited}
-use denote.Triple.Walked.{says, Stays, stay-ref, gave-slice, stay-none, walkOf, goes-ref, goes-gave-slice, goes-none, ends-at}
+use denote.Triple.Walked.{says, Stays, stay-none, stay-ref, gave-slice, walkOf, goes-none, goes-ref, goes-gave-slice, ends-at}
 use denote.Exit.{yes}
 use denote.Signature.{plain}
 use Rattle.record.specs.declared.Record.{Record}
 use Rattle.type_table.specs.declared.TypeId.{TypeId}
 use Rattle.record.specs.Encodes.{Runs}
 use Rattle.record.specs.Steps.{array-of}
-use Rattle.record.proofs.array_of as array-of
-use Rattle.record.proofs.array_of.Symbol as array-of-def
-use Rattle.record.proofs.array_of.Symbol.{name as #record·array-of}
-use Rattle.record.proofs.array_of.Met as array-of-thm
 use Rattle.lending.specs.Data.{Fits, rows, spelled, told}
 use Rattle.running.proofs.Types.{the-record, the-given, the-ty, record-fits, ty-fits}
 use Rattle.lending.specs.Records.{opened, closed, calls, last, plus, ends, enters, leaves}
 use Rattle.lending.specs.Proved.{proved}
+use Rattle.record.proofs.array_of as array-of
+use Rattle.record.proofs.array_of.Symbol as array-of-def
+use Rattle.record.proofs.array_of.Symbol.{name as #record·array-of}
+use Rattle.record.proofs.array_of.Met as array-of-thm
 use Rattle.running.proofs.append_array.Key.{name as #running·append-array}
 use Rattle.running.proofs.append_array as append-array
 use Rattle.running.proofs.append_array.Statement as stated
@@ -92,23 +92,22 @@ module _ {M : Type 1} (𝓤 : URA M) (H : Heap 𝓤) (A : Atoms 𝓤) (W : Given
     walk room k =
         qed W ((‵ (flft κ q) ⊛ ‵ (flft κ′ q′) ⊛ ‵ ftrue) ∷ ‵ (owns (MutSlice (named 0) κ u16 ∷ MutRef (named 1) κ′ (the-record .row) ∷ rows (the-ty ∷ [])) a vals) ∷ []) ∵
         enters ! the-record (named 1) b′ o′ γ′ h $ enter ! C Λ code.function (s ∷ vptr b′ o′ ∷ the-ty .val e ∷ []) _ $
-        alloc1 ! (λ l₀. alloc1 ! (λ l₁. alloc1 ! (λ l₂. alloc1 ! (λ l₃. alloc1 ! (λ l₄. alloc1 ! (λ l₅. alloc1 ! (λ l₆. alloc1 ! (λ l₇. alloc0 ! $ params1 ! $
+        alloc1 ! (λ l0. alloc1 ! (λ l1. alloc1 ! (λ l2. alloc1 ! (λ l3. alloc1 ! (λ l4. alloc1 ! (λ l5. alloc1 ! (λ l6. alloc1 ! (λ l7. alloc0 ! $ params1 ! $
         pass1 ! (init ! 12 refl (tt, (tt, (record { fits = room .0 }, tt)))) $ pass1 ! (init ! 10 refl (tt, tt)) $ pass1 ! (init ! 8 refl (the-ty .lawful 𝓤 H A W .typed e _ k .0)) $ pass0 ! $
-        -- [_7; …; _0; …; obs; the record's borrow; its token; the memory's token; the memory]
+        -- the borrow is opened, and the record in it copied
         move ! (16 ∷ 17 ∷ 18 ∷ []) $ opened ! tt the-record b′ o′ h (λ g.
-        -- [the record's cell; the open borrow; obs; auth; _7; …; _0; …; the memory's token; the memory]
         assigns ! (of-opd ! (load ! (from ! (hop ! (look ! 14 refl) (stop !))) (look-raw ! 0 refl))) (from ! (stop !)) (init ! 10 refl (the-record .lawful 𝓤 H A W .typed h _ g .0)) $
         assigns ! (addr ! (from ! (fld ! refl (hop ! (look-in ! 16 (sub ! 0 refl (whole !))) (stop !))))) (from ! (stop !)) (init ! 6 refl (tt, tt)) $
         assigns ! (agg ! (and-then ! (load ! (from ! (stop !)) (look ! 6 refl)) (and-then ! (load ! (from ! (fld ! refl (stop !))) (look-in ! 16 (sub ! 1 refl (whole !)))) (no-more !)))) (from ! (stop !)) (init ! 4 refl (tt, (tt, (record { fits = room .0 }, tt)))) $
+        -- `array_of` is called with the copy
         move ! (21 ∷ []) $ plus ! (the-record ∷ the-ty ∷ []) (h, (e, tt)) (g, (k, tt)) $ move ! (21 ∷ 0 ∷ []) $
         calls ! fm (Called 𝓤 H A mem run) known to-called (‵ (flft κ q) ⊛ ‵ ftrue) _ (id⊢ 𝓤 _) the-given (List ℕ × (Unit {0} × (Unit {0} × Unit {0}))) (lasts array-of.ended (κ, tt) passed) (λ r zs. Runs ys h (zs .0) (r .record) (array-of (e .0)) (r .ty .0)) (λ w. id⊢ 𝓤 _)
         (and-then ! (load ! (from ! (stop !)) (look ! 5 refl)) (and-then ! (load ! (from ! (stop !)) (look ! 11 refl)) (and-then ! (load ! (from ! (stop !)) (look ! 13 refl)) (no-more !)))) (λ r zs is ran. last ! (λ l.
-        -- [the memory's token; its last cells; the record's cell; the open borrow; obs; auth; _7; …; _0; …]
         land ! (from ! (stop !)) (init ! 10 refl (the-given .lawful 𝓤 H A W .typed r _ is .0)) $
+        -- the record that came back is stored, and the borrow closed at it
         assigns ! (of-opd ! (load ! (from ! (fld ! refl (stop !))) (look-in ! 10 (sub ! 0 refl (whole !))))) (from ! (hop ! (look ! 16 refl) (stop !))) (store-raw ! 2 refl (the-record .lawful 𝓤 H A W .typed (r .record) _ (record-fits r is) .0)) $
         assigns ! (of-opd ! (load ! (from ! (fld ! refl (stop !))) (look-in ! 10 (sub ! 1 refl (whole !))))) (from ! (stop !)) (init ! 20 refl (the-ty .lawful 𝓤 H A W .typed (r .ty) _ (ty-fits r is) .0)) $
         move ! (2 ∷ 3 ∷ 4 ∷ 5 ∷ []) $ closed ! tt the-record b′ o′ (r .record) (record-fits r is) $
-        -- [obs; the record's borrow; its token; the memory's token; its last cells; _7; …; _0; …]
         returns ! (look ! 19 refl) $ ends ! 19 refl refl $ ends ! 17 refl refl $ ends ! 15 refl refl $ ends ! 13 refl refl $ ends ! 11 refl refl $ ends ! 9 refl refl $ ends ! 7 refl refl $ ends ! 5 refl refl $ free0 ! $
         keep ! (0 ∷ 1 ∷ 2 ∷ 3 ∷ 4 ∷ []) $
         suffices ! _ (ends-at 𝓤 H A append-array.ended stayed (append-array.clauses 𝓤 H A mem run) W (((κ, (κ′, tt)), (q, (q′, tt)), tt, a, vals), tt) (the-ty .val (r .ty)) (r .ty) (zs .0, ((r .record), (tt, tt))) (l, (tt, (tt, tt)))) $ says ! ran $
@@ -124,4 +123,4 @@ append-array-spec 𝓤 H 𝓜 𝓖 𝓡 =
     (goes-gave-slice 𝓤 H A W 2 0 tt (plain (λ _. u16)), (goes-ref 𝓤 H A W 2 1 tt (plain (λ _. the-record .row)), (goes-none 𝓤 H A W 2 (λ _. the-ty .row) yes (λ κs x f. refl), tt)))
     (λ κs. (slice-vals, (ptr-vals, spelled (the-ty ∷ [])))) (λ κs. (mut-slice-tells (named 0) (κs .0) u16, (mut-tells (named 1) (κs .1 .0) (the-record .row), told (the-ty ∷ []))))
     (λ fm κs qs bounds a g are. walk 𝓤 H A W (𝓜 .mem) (𝓡 .run) (κs .0) (κs .1 .0) (qs .0) (qs .1 .0) (a .0 .ptr .0) (a .0 .ptr .1) (a .0 .name) (a .0 .now) (a .1 .0 .ptr .0) (a .1 .0 .ptr .1) (a .1 .0 .name) (a .1 .0 .now) (a .1 .1 .0)
-    (tables 𝓤 H 𝓜 𝓡 code.env .C) (tables 𝓤 H 𝓜 𝓡 code.env .Λ) fm (cited 𝓤 H (Called 𝓤 H A (𝓜 .mem) (𝓡 .run)) 𝓜 𝓡 code.env #record·array-of array-of-def.routine code.calls-record·array-of (array-of-thm.met 𝓤 H 𝓜 𝓖 𝓡)) (are .0 .0 .1) (are .1 .1 .0))
+    (tables-of 𝓤 H 𝓜 𝓡 code.env .C) (tables-of 𝓤 H 𝓜 𝓡 code.env .Λ) fm (cited 𝓤 H (Called 𝓤 H A (𝓜 .mem) (𝓡 .run)) 𝓜 𝓡 code.env #record·array-of array-of-def.routine code.calls-record·array-of (array-of-thm.met 𝓤 H 𝓜 𝓖 𝓡)) (are .0 .0 .1) (are .1 .1 .0))

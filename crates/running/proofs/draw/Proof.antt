@@ -15,9 +15,9 @@ use prog.Routine.{Routine}
 use prog.Wp.{Heap, Calls, Loops, WpFn}
 use ghost.Atoms.{Atoms}
 use contract.Monad.{Fun}
-use contract.Running.{givenOf, tables}
+use contract.Running.{givenOf, tables as tables-of}
 use types.Kit.{Given, ‵, _⊛_, _$_, _∵_, !, qed, by, move, keep, suffices}
-use types.Run.{look, look-raw, store-raw, init, stop, hop, fld, from, load, addr, of-opd, and-then, no-more, assigns, land, returns, enter, alloc1, alloc0, params1, pass1, pass0, free0}
+use types.Run.{look, look-raw, init, store-raw, stop, hop, fld, from, load, addr, of-opd, and-then, no-more, assigns, land, returns, enter, alloc1, alloc0, params1, pass1, pass0, free0}
 use types.Part.{agg, whole, sub, look-in}
 use sound.WpLaws.{FmC}
 use denote.RattleType.{owns}
@@ -29,7 +29,7 @@ use denote.Triple.Spec.{tripleOf}
 use denote.Triple.Statement.{Contract, Triple}
 use denote.Triple.Clauses.{lasts}
 use denote.Triple.Table.{cited}
-use denote.Triple.Walked.{says, Stays, stay-ref, gave-slice, stay-none, walkOf, goes-ref, goes-gave-slice, goes-none, ends-at}
+use denote.Triple.Walked.{says, Stays, stay-none, stay-ref, gave-slice, walkOf, goes-none, goes-ref, goes-gave-slice, ends-at}
 use denote.Exit.{yes}
 use denote.Signature.{plain}
 use Rattle.record.specs.declared.Record.{Record}
@@ -37,16 +37,16 @@ use Rattle.type_table.specs.declared.Kind.{Kind}
 use Rattle.type_table.specs.declared.Origin.{Origin}
 use Rattle.record.specs.Encodes.{Runs}
 use Rattle.type_table.specs.Memory.{kindOf, numbered}
-use Rattle.type_table.specs.Made.{originNumber, kindNumber}
+use Rattle.type_table.specs.Made.{kindNumber, originNumber}
 use Rattle.record.specs.Steps.{new-infer-var}
-use Rattle.record.proofs.new_infer_var as new-infer-var
-use Rattle.record.proofs.new_infer_var.Symbol as new-infer-var-def
-use Rattle.record.proofs.new_infer_var.Symbol.{name as #record·new-infer-var}
-use Rattle.record.proofs.new_infer_var.Met as new-infer-var-thm
 use Rattle.lending.specs.Data.{Fits, rows, spelled, told}
 use Rattle.running.proofs.Types.{the-record, the-given, the-ty, the-kind, the-origin, record-fits, ty-fits}
 use Rattle.lending.specs.Records.{opened, closed, calls, last, plus, ends, enters, leaves}
 use Rattle.lending.specs.Proved.{proved}
+use Rattle.record.proofs.new_infer_var as new-infer-var
+use Rattle.record.proofs.new_infer_var.Symbol as new-infer-var-def
+use Rattle.record.proofs.new_infer_var.Symbol.{name as #record·new-infer-var}
+use Rattle.record.proofs.new_infer_var.Met as new-infer-var-thm
 use Rattle.running.proofs.draw.Key.{name as #running·draw}
 use Rattle.running.proofs.draw as draw
 use Rattle.running.proofs.draw.Statement as stated
@@ -92,30 +92,29 @@ module _ {M : Type 1} (𝓤 : URA M) (H : Heap 𝓤) (A : Atoms 𝓤) (W : Given
   module _ (C : Calls 𝓤 H) (Λ : Loops 𝓤 H) (fm : FmC 𝓤 H (W .laws) C) (known : Triple 𝓤 (C #record·new-infer-var) (Called 𝓤 H A mem run)) where
     -- the MIR, statement by statement
     walk : Room u16 (length ys) → Fits the-kind kind → Fits the-origin origin → ent 𝓤 (onEntry 𝓤 H A draw.signature (κ, (κ′, tt)) (q, (q′, tt)) a vals) (WpFn 𝓤 H C Λ code.function (s ∷ vptr b′ o′ ∷ the-kind .val kind ∷ the-origin .val origin ∷ []) Post)
-    walk room k₀ k₁ =
+    walk room k0 k1 =
         qed W ((‵ (flft κ q) ⊛ ‵ (flft κ′ q′) ⊛ ‵ ftrue) ∷ ‵ (owns (MutSlice (named 0) κ u16 ∷ MutRef (named 1) κ′ (the-record .row) ∷ rows (the-kind ∷ the-origin ∷ [])) a vals) ∷ []) ∵
         enters ! the-record (named 1) b′ o′ γ′ h $ enter ! C Λ code.function (s ∷ vptr b′ o′ ∷ the-kind .val kind ∷ the-origin .val origin ∷ []) _ $
-        alloc1 ! (λ l₀. alloc1 ! (λ l₁. alloc1 ! (λ l₂. alloc1 ! (λ l₃. alloc1 ! (λ l₄. alloc1 ! (λ l₅. alloc1 ! (λ l₆. alloc1 ! (λ l₇. alloc1 ! (λ l₈. alloc0 ! $ params1 ! $
-        pass1 ! (init ! 14 refl (tt, (tt, (record { fits = room .0 }, tt)))) $ pass1 ! (init ! 12 refl (tt, tt)) $ pass1 ! (init ! 10 refl (the-kind .lawful 𝓤 H A W .typed kind _ k₀ .0)) $ pass1 ! (init ! 8 refl (the-origin .lawful 𝓤 H A W .typed origin _ k₁ .0)) $ pass0 ! $
-        -- [_8; …; _0; …; obs; the record's borrow; its token; the memory's token; the memory]
+        alloc1 ! (λ l0. alloc1 ! (λ l1. alloc1 ! (λ l2. alloc1 ! (λ l3. alloc1 ! (λ l4. alloc1 ! (λ l5. alloc1 ! (λ l6. alloc1 ! (λ l7. alloc1 ! (λ l8. alloc0 ! $ params1 ! $
+        pass1 ! (init ! 14 refl (tt, (tt, (record { fits = room .0 }, tt)))) $ pass1 ! (init ! 12 refl (tt, tt)) $ pass1 ! (init ! 10 refl (the-kind .lawful 𝓤 H A W .typed kind _ k0 .0)) $ pass1 ! (init ! 8 refl (the-origin .lawful 𝓤 H A W .typed origin _ k1 .0)) $ pass0 ! $
+        -- the borrow is opened, and the record in it copied
         move ! (18 ∷ 19 ∷ 20 ∷ []) $ opened ! tt the-record b′ o′ h (λ g.
-        -- [the record's cell; the open borrow; obs; auth; _8; …; _0; …; the memory's token; the memory]
         assigns ! (of-opd ! (load ! (from ! (hop ! (look ! 16 refl) (stop !))) (look-raw ! 0 refl))) (from ! (stop !)) (init ! 10 refl (the-record .lawful 𝓤 H A W .typed h _ g .0)) $
         assigns ! (addr ! (from ! (fld ! refl (hop ! (look-in ! 18 (sub ! 0 refl (whole !))) (stop !))))) (from ! (stop !)) (init ! 6 refl (tt, tt)) $
         assigns ! (agg ! (and-then ! (load ! (from ! (stop !)) (look ! 6 refl)) (and-then ! (load ! (from ! (fld ! refl (stop !))) (look-in ! 18 (sub ! 1 refl (whole !)))) (no-more !)))) (from ! (stop !)) (init ! 4 refl (tt, (tt, (record { fits = room .0 }, tt)))) $
-        move ! (23 ∷ []) $ plus ! (the-record ∷ the-kind ∷ the-origin ∷ []) (h, (kind, (origin, tt))) (g, (k₀, (k₁, tt))) $ move ! (23 ∷ 0 ∷ []) $
+        -- `new_infer_var` is called with the copy
+        move ! (23 ∷ []) $ plus ! (the-record ∷ the-kind ∷ the-origin ∷ []) (h, (kind, (origin, tt))) (g, (k0, (k1, tt))) $ move ! (23 ∷ 0 ∷ []) $
         calls ! fm (Called 𝓤 H A mem run) known to-called (‵ (flft κ q) ⊛ ‵ ftrue) _ (id⊢ 𝓤 _) the-given (List ℕ × (Unit {0} × (Unit {0} × (Unit {0} × Unit {0})))) (lasts new-infer-var.ended (κ, tt) passed) (λ r zs. Runs ys h (zs .0) (r .record) (new-infer-var (kindOf (kindNumber kind)) (numbered (originNumber origin))) (r .ty .0)) (λ w. id⊢ 𝓤 _)
         (and-then ! (load ! (from ! (stop !)) (look ! 5 refl)) (and-then ! (load ! (from ! (stop !)) (look ! 11 refl)) (and-then ! (load ! (from ! (stop !)) (look ! 15 refl)) (and-then ! (load ! (from ! (stop !)) (look ! 13 refl)) (no-more !))))) (λ r zs is ran. last ! (λ l.
-        -- [the memory's token; its last cells; the record's cell; the open borrow; obs; auth; _8; …; _0; …]
         land ! (from ! (stop !)) (init ! 10 refl (the-given .lawful 𝓤 H A W .typed r _ is .0)) $
+        -- the record that came back is stored, and the borrow closed at it
         assigns ! (of-opd ! (load ! (from ! (fld ! refl (stop !))) (look-in ! 10 (sub ! 0 refl (whole !))))) (from ! (hop ! (look ! 18 refl) (stop !))) (store-raw ! 2 refl (the-record .lawful 𝓤 H A W .typed (r .record) _ (record-fits r is) .0)) $
         assigns ! (of-opd ! (load ! (from ! (fld ! refl (stop !))) (look-in ! 10 (sub ! 1 refl (whole !))))) (from ! (stop !)) (init ! 22 refl (the-ty .lawful 𝓤 H A W .typed (r .ty) _ (ty-fits r is) .0)) $
         move ! (2 ∷ 3 ∷ 4 ∷ 5 ∷ []) $ closed ! tt the-record b′ o′ (r .record) (record-fits r is) $
-        -- [obs; the record's borrow; its token; the memory's token; its last cells; _8; …; _0; …]
         returns ! (look ! 21 refl) $ ends ! 21 refl refl $ ends ! 19 refl refl $ ends ! 17 refl refl $ ends ! 15 refl refl $ ends ! 13 refl refl $ ends ! 11 refl refl $ ends ! 9 refl refl $ ends ! 7 refl refl $ ends ! 5 refl refl $ free0 ! $
         keep ! (0 ∷ 1 ∷ 2 ∷ 3 ∷ 4 ∷ []) $
         suffices ! _ (ends-at 𝓤 H A draw.ended stayed (draw.clauses 𝓤 H A mem run) W (((κ, (κ′, tt)), (q, (q′, tt)), tt, a, vals), tt) (the-ty .val (r .ty)) (r .ty) (zs .0, ((r .record), (tt, (tt, tt)))) (l, (tt, (tt, (tt, tt))))) $ says ! ran $
-        by ! (leaves 𝓤 H A W (the-kind ∷ the-origin ∷ []) (kind, (origin, tt)) (k₀, (k₁, tt)) the-ty (r .ty) (ty-fits r is) κ q (finally u16 γ (zs .0)) the-record κ′ q′ (named 1) b′ o′ γ′ (r .record))))))))))))))
+        by ! (leaves 𝓤 H A W (the-kind ∷ the-origin ∷ []) (kind, (origin, tt)) (k0, (k1, tt)) the-ty (r .ty) (ty-fits r is) κ q (finally u16 γ (zs .0)) the-record κ′ q′ (named 1) b′ o′ γ′ (r .record))))))))))))))
 
 -- the theorem
 pub draw-spec : {M : Type 1} → stated.statement M
@@ -127,4 +126,4 @@ draw-spec 𝓤 H 𝓜 𝓖 𝓡 =
     (goes-gave-slice 𝓤 H A W 2 0 tt (plain (λ _. u16)), (goes-ref 𝓤 H A W 2 1 tt (plain (λ _. the-record .row)), (goes-none 𝓤 H A W 2 (λ _. the-kind .row) yes (λ κs x f. refl), (goes-none 𝓤 H A W 2 (λ _. the-origin .row) yes (λ κs x f. refl), tt))))
     (λ κs. (slice-vals, (ptr-vals, spelled (the-kind ∷ the-origin ∷ [])))) (λ κs. (mut-slice-tells (named 0) (κs .0) u16, (mut-tells (named 1) (κs .1 .0) (the-record .row), told (the-kind ∷ the-origin ∷ []))))
     (λ fm κs qs bounds a g are. walk 𝓤 H A W (𝓜 .mem) (𝓡 .run) (κs .0) (κs .1 .0) (qs .0) (qs .1 .0) (a .0 .ptr .0) (a .0 .ptr .1) (a .0 .name) (a .0 .now) (a .1 .0 .ptr .0) (a .1 .0 .ptr .1) (a .1 .0 .name) (a .1 .0 .now) (a .1 .1 .0) (a .1 .1 .1 .0)
-    (tables 𝓤 H 𝓜 𝓡 code.env .C) (tables 𝓤 H 𝓜 𝓡 code.env .Λ) fm (cited 𝓤 H (Called 𝓤 H A (𝓜 .mem) (𝓡 .run)) 𝓜 𝓡 code.env #record·new-infer-var new-infer-var-def.routine code.calls-record·new-infer-var (new-infer-var-thm.met 𝓤 H 𝓜 𝓖 𝓡)) (are .0 .0 .1) (are .1 .1 .0) (are .1 .1 .1 .0))
+    (tables-of 𝓤 H 𝓜 𝓡 code.env .C) (tables-of 𝓤 H 𝓜 𝓡 code.env .Λ) fm (cited 𝓤 H (Called 𝓤 H A (𝓜 .mem) (𝓡 .run)) 𝓜 𝓡 code.env #record·new-infer-var new-infer-var-def.routine code.calls-record·new-infer-var (new-infer-var-thm.met 𝓤 H 𝓜 𝓖 𝓡)) (are .0 .0 .1) (are .1 .1 .0) (are .1 .1 .1 .0))

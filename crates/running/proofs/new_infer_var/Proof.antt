@@ -16,7 +16,7 @@ use prog.Routine.{Routine}
 use prog.Wp.{Heap, Calls, Loops, WpFn}
 use ghost.Atoms.{Atoms}
 use contract.Monad.{Fun}
-use contract.Running.{givenOf, tables}
+use contract.Running.{givenOf, tables as tables-of}
 use types.Kit.{Given, ‵, _⊛_, _$_, _∵_, !, qed, by, move, keep, fsplit, suffices}
 use types.Run.{look, init, stop, hop, fld, from, load, addr, of-opd, and-then, no-more, assigns, land, returns, enter, alloc1, alloc0, params1, pass1, pass0, free0}
 use types.Part.{agg, whole, sub, look-in}
@@ -30,7 +30,7 @@ use denote.Triple.Spec.{tripleOf}
 use denote.Triple.Statement.{Contract, Triple}
 use denote.Triple.Clauses.{lasts}
 use denote.Triple.Table.{cited}
-use denote.Triple.Walked.{says, Stays, gave-slice, stay-none, walkOf, goes-gave-slice, goes-none, ends-at}
+use denote.Triple.Walked.{says, Stays, stay-none, gave-slice, walkOf, goes-none, goes-gave-slice, ends-at}
 use denote.Exit.{yes}
 use denote.Signature.{plain}
 use Rattle.record.specs.declared.Record.{Record}
@@ -38,10 +38,10 @@ use Rattle.type_table.specs.declared.Kind.{Kind}
 use Rattle.type_table.specs.declared.Origin.{Origin}
 use Rattle.record.specs.Encodes.{Runs}
 use Rattle.type_table.specs.Memory.{kindOf, numbered}
-use Rattle.type_table.specs.Made.{originNumber, kindNumber}
+use Rattle.type_table.specs.Made.{kindNumber, originNumber}
 use Rattle.record.specs.Steps.{new-infer-var}
 use Rattle.lending.specs.Data.{Fits, rows, spelled, told}
-use Rattle.running.proofs.Types.{the-record, the-given, the-ty, the-kind, the-origin, given, given-fits}
+use Rattle.running.proofs.Types.{the-record, the-given, the-ty, the-kind, the-origin, given-of, given-fits}
 use Rattle.lending.specs.Records.{lends, comes-back, calls, ends, leaves-plain}
 use Rattle.lending.specs.Proved.{proved}
 use Rattle.running.proofs.draw as draw
@@ -93,28 +93,28 @@ module _ {M : Type 1} (𝓤 : URA M) (H : Heap 𝓤) (A : Atoms 𝓤) (W : Given
   module _ (C : Calls 𝓤 H) (Λ : Loops 𝓤 H) (fm : FmC 𝓤 H (W .laws) C) (known : Triple 𝓤 (C #running·draw) (Called 𝓤 H A mem run)) where
     -- the MIR, statement by statement
     walk : Room u16 (length ys) → Fits the-record h → Fits the-kind kind → Fits the-origin origin → ent 𝓤 (onEntry 𝓤 H A new-infer-var.signature (κ, tt) (q, tt) a vals) (WpFn 𝓤 H C Λ code.function (s ∷ the-record .val h ∷ the-kind .val kind ∷ the-origin .val origin ∷ []) Post)
-    walk room g k₀ k₁ =
+    walk room g k0 k1 =
         qed W ((‵ (flft κ q) ⊛ ‵ ftrue) ∷ ‵ (owns (MutSlice (named 0) κ u16 ∷ rows (the-record ∷ the-kind ∷ the-origin ∷ [])) a vals) ∷ []) ∵
         move ! (1 ∷ []) $ fsplit ! $ move ! (2 ∷ 0 ∷ []) $ enter ! C Λ code.function (s ∷ the-record .val h ∷ the-kind .val kind ∷ the-origin .val origin ∷ []) _ $
-        alloc1 ! (λ l₀. alloc1 ! (λ l₁. alloc1 ! (λ l₂. alloc1 ! (λ l₃. alloc1 ! (λ l₄. alloc1 ! (λ l₅. alloc1 ! (λ l₆. alloc1 ! (λ l₇. alloc1 ! (λ l₈. alloc1 ! (λ l₉. alloc1 ! (λ l₁₀. alloc0 ! $ params1 ! $
-        pass1 ! (init ! 18 refl (tt, (tt, (record { fits = room .0 }, tt)))) $ pass1 ! (init ! 16 refl (the-record .lawful 𝓤 H A W .typed h _ g .0)) $ pass1 ! (init ! 14 refl (the-kind .lawful 𝓤 H A W .typed kind _ k₀ .0)) $ pass1 ! (init ! 12 refl (the-origin .lawful 𝓤 H A W .typed origin _ k₁ .0)) $ pass0 ! $
-        -- [_10; …; _0; …; the memory's token; the memory; …]
+        alloc1 ! (λ l0. alloc1 ! (λ l1. alloc1 ! (λ l2. alloc1 ! (λ l3. alloc1 ! (λ l4. alloc1 ! (λ l5. alloc1 ! (λ l6. alloc1 ! (λ l7. alloc1 ! (λ l8. alloc1 ! (λ l9. alloc1 ! (λ l10. alloc0 ! $ params1 ! $
+        pass1 ! (init ! 18 refl (tt, (tt, (record { fits = room .0 }, tt)))) $ pass1 ! (init ! 16 refl (the-record .lawful 𝓤 H A W .typed h _ g .0)) $ pass1 ! (init ! 14 refl (the-kind .lawful 𝓤 H A W .typed kind _ k0 .0)) $ pass1 ! (init ! 12 refl (the-origin .lawful 𝓤 H A W .typed origin _ k1 .0)) $ pass0 ! $
+        -- the record is copied to a local, and the local is lent
         assigns ! (of-opd ! (load ! (from ! (stop !)) (look ! 16 refl))) (from ! (stop !)) (init ! 10 refl (the-record .lawful 𝓤 H A W .typed h _ g .0)) $
         assigns ! (addr ! (from ! (fld ! refl (hop ! (look-in ! 18 (sub ! 0 refl (whole !))) (stop !))))) (from ! (stop !)) (init ! 6 refl (tt, tt)) $
         assigns ! (agg ! (and-then ! (load ! (from ! (stop !)) (look ! 6 refl)) (and-then ! (load ! (from ! (fld ! refl (stop !))) (look-in ! 18 (sub ! 1 refl (whole !)))) (no-more !)))) (from ! (stop !)) (init ! 4 refl (tt, (tt, (record { fits = room .0 }, tt)))) $
         assigns ! (addr ! (from ! (stop !))) (from ! (stop !)) (init ! 2 refl (tt, tt)) $
-        move ! (10 ∷ 22 ∷ 23 ∷ []) $ lends ! tt the-record l₅ (named 1) h g (the-kind ∷ the-origin ∷ []) (kind, (origin, tt)) (k₀, (k₁, tt)) (λ α δ.
-        -- [the tokens; the arguments; the lender's part; _10; …; _0; … without _5]
-        calls ! fm (Called 𝓤 H A mem run) known (to-called l₅ α δ) (‵ (flft κ q) ⊛ ‵ (flft (α ∷ []) fullShare) ⊛ ‵ ftrue) _ (id⊢ 𝓤 _) the-ty (List ℕ × (Record × (Unit {0} × (Unit {0} × Unit {0})))) (lasts draw.ended (κ, (α ∷ [], tt)) (passed l₅ δ)) (λ t zs. Runs ys h (zs .0) (zs .1 .0) (new-infer-var (kindOf (kindNumber kind)) (numbered (originNumber origin))) (t .0)) (λ w. id⊢ 𝓤 _)
+        move ! (10 ∷ 22 ∷ 23 ∷ []) $ lends ! tt the-record l5 (named 1) h g (the-kind ∷ the-origin ∷ []) (kind, (origin, tt)) (k0, (k1, tt)) (λ α δ.
+        calls ! fm (Called 𝓤 H A mem run) known (to-called l5 α δ) (‵ (flft κ q) ⊛ ‵ (flft (α ∷ []) fullShare) ⊛ ‵ ftrue) _ (id⊢ 𝓤 _) the-ty (List ℕ × (Record × (Unit {0} × (Unit {0} × Unit {0})))) (lasts draw.ended (κ, (α ∷ [], tt)) (passed l5 δ)) (λ t zs. Runs ys h (zs .0) (zs .1 .0) (new-infer-var (kindOf (kindNumber kind)) (numbered (originNumber origin))) (t .0)) (λ w. id⊢ 𝓤 _)
         (and-then ! (load ! (from ! (stop !)) (look ! 6 refl)) (and-then ! (load ! (from ! (stop !)) (look ! 4 refl)) (and-then ! (load ! (from ! (stop !)) (look ! 15 refl)) (and-then ! (load ! (from ! (stop !)) (look ! 13 refl)) (no-more !))))) (λ t zs kt ran.
-        land ! (from ! (stop !)) (init ! 11 refl (the-ty .lawful 𝓤 H A W .typed t _ kt .0)) $ comes-back ! tt the-record l₅ (zs .1 .0) (λ l is. move ! (0 ∷ 13 ∷ []) $
-        -- [_5; …; the memory's token; its last cells; _10; …; _0; … without _5]
+        land ! (from ! (stop !)) (init ! 11 refl (the-ty .lawful 𝓤 H A W .typed t _ kt .0)) $
+        -- the local comes back at the last value of the reference
+        comes-back ! tt the-record l5 (zs .1 .0) (λ l is. move ! (0 ∷ 13 ∷ []) $
         assigns ! (of-opd ! (load ! (from ! (stop !)) (look ! 0 refl))) (from ! (stop !)) (init ! 4 refl (the-record .lawful 𝓤 H A W .typed (zs .1 .0) _ is .0)) $
-        assigns ! (agg ! (and-then ! (load ! (from ! (stop !)) (look ! 4 refl)) (and-then ! (load ! (from ! (stop !)) (look ! 12 refl)) (no-more !)))) (from ! (stop !)) (init ! 22 refl (the-given .lawful 𝓤 H A W .typed (given (zs .1 .0) t) _ (given-fits (zs .1 .0) t is kt) .0)) $
+        assigns ! (agg ! (and-then ! (load ! (from ! (stop !)) (look ! 4 refl)) (and-then ! (load ! (from ! (stop !)) (look ! 12 refl)) (no-more !)))) (from ! (stop !)) (init ! 22 refl (the-given .lawful 𝓤 H A W .typed (given-of (zs .1 .0) t) _ (given-fits (zs .1 .0) t is kt) .0)) $
         returns ! (look ! 22 refl) $ ends ! 22 refl refl $ ends ! 20 refl refl $ ends ! 18 refl refl $ ends ! 16 refl refl $ ends ! 14 refl refl $ ends ! 0 refl refl $ ends ! 10 refl refl $ ends ! 8 refl refl $ ends ! 6 refl refl $ ends ! 4 refl refl $ ends ! 2 refl refl $ free0 ! $
         keep ! (0 ∷ 1 ∷ []) $
-        suffices ! _ (ends-at 𝓤 H A new-infer-var.ended stayed (new-infer-var.clauses 𝓤 H A mem run) W (((κ, tt), (q, tt), tt, a, vals), tt) (the-given .val (given (zs .1 .0) t)) (given (zs .1 .0) t) (zs .0, (tt, (tt, (tt, tt)))) (l, (tt, (tt, (tt, tt))))) $ says ! ran $
-        by ! (leaves-plain 𝓤 H A W (the-record ∷ the-kind ∷ the-origin ∷ []) (h, (kind, (origin, tt))) (g, (k₀, (k₁, tt))) the-given (given (zs .1 .0) t) (given-fits (zs .1 .0) t is kt) κ q (finally u16 γ (zs .0)))))))))))))))))
+        suffices ! _ (ends-at 𝓤 H A new-infer-var.ended stayed (new-infer-var.clauses 𝓤 H A mem run) W (((κ, tt), (q, tt), tt, a, vals), tt) (the-given .val (given-of (zs .1 .0) t)) (given-of (zs .1 .0) t) (zs .0, (tt, (tt, (tt, tt)))) (l, (tt, (tt, (tt, tt))))) $ says ! ran $
+        by ! (leaves-plain 𝓤 H A W (the-record ∷ the-kind ∷ the-origin ∷ []) (h, (kind, (origin, tt))) (g, (k0, (k1, tt))) the-given (given-of (zs .1 .0) t) (given-fits (zs .1 .0) t is kt) κ q (finally u16 γ (zs .0)))))))))))))))))
 
 -- the theorem
 pub new-infer-var-spec : {M : Type 1} → stated.statement M
@@ -126,4 +126,4 @@ new-infer-var-spec 𝓤 H 𝓜 𝓖 𝓡 =
     (goes-gave-slice 𝓤 H A W 1 0 tt (plain (λ _. u16)), (goes-none 𝓤 H A W 1 (λ _. the-record .row) yes (λ κs x f. refl), (goes-none 𝓤 H A W 1 (λ _. the-kind .row) yes (λ κs x f. refl), (goes-none 𝓤 H A W 1 (λ _. the-origin .row) yes (λ κs x f. refl), tt))))
     (λ κs. (slice-vals, spelled (the-record ∷ the-kind ∷ the-origin ∷ []))) (λ κs. (mut-slice-tells (named 0) (κs .0) u16, told (the-record ∷ the-kind ∷ the-origin ∷ [])))
     (λ fm κs qs bounds a g are. walk 𝓤 H A W (𝓜 .mem) (𝓡 .run) (κs .0) (qs .0) (a .0 .ptr .0) (a .0 .ptr .1) (a .0 .name) (a .0 .now) (a .1 .0) (a .1 .1 .0) (a .1 .1 .1 .0)
-    (tables 𝓤 H 𝓜 𝓡 code.env .C) (tables 𝓤 H 𝓜 𝓡 code.env .Λ) fm (cited 𝓤 H (Called 𝓤 H A (𝓜 .mem) (𝓡 .run)) 𝓜 𝓡 code.env #running·draw draw-def.routine code.calls-running·draw (draw-thm.met 𝓤 H 𝓜 𝓖 𝓡)) (are .0 .0 .1) (are .1 .0) (are .1 .1 .0) (are .1 .1 .1 .0))
+    (tables-of 𝓤 H 𝓜 𝓡 code.env .C) (tables-of 𝓤 H 𝓜 𝓡 code.env .Λ) fm (cited 𝓤 H (Called 𝓤 H A (𝓜 .mem) (𝓡 .run)) 𝓜 𝓡 code.env #running·draw draw-def.routine code.calls-running·draw (draw-thm.met 𝓤 H 𝓜 𝓖 𝓡)) (are .0 .0 .1) (are .1 .0) (are .1 .1 .0) (are .1 .1 .1 .0))
