@@ -3,9 +3,10 @@ use mathlib.Core.Path.{_≡_, refl, ap, _∙_}
 use mathlib.Core.List.{List, [], _∷_, _++_}
 use mathlib.Core.Bool.{Bool, true, false, cond}
 use Prim.Native.Nat.{ℕ, _≤_, _<_}
-use lib.ListN.{length, take, drop, length-replicate}
+use lib.ListN.{length, replicate, take, drop, length-replicate}
 use lib.Dec.{ltb}
-use borrow.Author.Tests.{le-ltb, ltb-true, ltb-false}
+use borrow.Author.Tests.{lt-ltb, le-ltb, ltb-true, ltb-false}
+use Rattle.answers.specs.Lent.{tooShort}
 use Rattle.output.specs.Output.{zeros, ended}
 use Rattle.report.specs.Report.{Told, reportText}
 use Rattle.report.specs.Claims.{with-room, without-room}
@@ -21,6 +22,16 @@ nine-with-room : (o : List ℕ) → 11 ≤ length o → printedText (ended nineL
 unfolding ended
 nine-with-room o h = rw (le-ltb (length o) 11 h)
 
+-- and where it has none
+nine-without-room : (o : List ℕ) → length o < 11 → printedText (ended nineLine o) ≡ printed 0 (zeros o)
+unfolding ended
+nine-without-room o h = rw (lt-ltb (length o) 11 h)
+
+-- no table that is lent is too short: 2 is never printed
+pub tables-suffice : tooShort lentTables ≡ false
+unfolding tooShort lentTables
+tables-suffice = refl
+
 module _ (s o : List ℕ) where
   -- a report that has room is printed; the bytes behind it in the output are unchanged
   pub report-printed : length (reportText s lentTables) ≤ length o → printedOf s o ≡ printed (length (reportText s lentTables)) (reportText s lentTables ++ drop (length (reportText s lentTables)) o)
@@ -31,6 +42,11 @@ module _ (s o : List ℕ) where
   pub nine-printed : length o < length (reportText s lentTables) → 11 ≤ length o → printedOf s o ≡ printed 11 (nineLine ++ drop 11 (zeros o))
   unfolding printedOf
   nine-printed h k = ap (λ (r : Told). printedBy (r .answer) (r .output)) (without-room s lentTables o h) ∙ nine-with-room (zeros o) (rw (length-replicate {A = ℕ} (length o) 0) k)
+
+  -- nothing where that line has no room either; the output is zero throughout
+  pub nothing-printed : length o < length (reportText s lentTables) → length o < 11 → printedOf s o ≡ printed 0 (zeros o)
+  unfolding printedOf
+  nothing-printed h k = ap (λ (r : Told). printedBy (r .answer) (r .output)) (without-room s lentTables o h) ∙ nine-without-room (zeros o) (rw (length-replicate {A = ℕ} (length o) 0) k) ∙ ap (λ n. printed 0 (replicate n 0)) (length-replicate {A = ℕ} (length o) 0)
 
   -- so the bytes that are printed are the report, or `answer=9,-` where that is longer than the output; `typereport` lends 65,536 bytes
   pub bytes-printed : 11 ≤ length o → printedBytes (printedOf s o) ≡ cond (ltb (length o) (length (reportText s lentTables))) nineLine (reportText s lentTables)
