@@ -2,7 +2,10 @@
 
    A slice is lent as a pointer and a length in elements. No pointer may be null or misaligned, also where the length is 0, and no two
    slices may overlap. Nothing is kept between two calls, no memory is taken, and no table has to be cleared before a call.
-   docs/TABLES.md has the tables cell by cell. */
+   docs/TABLES.md has the tables cell by cell.
+
+   The library calls memset, which the firmware has to provide, and nothing else. Its stack is measured, not proved: at most 89,384 bytes of
+   nunthila_check and 89,448 of nunthila_report, and 89,768 of nunthila_quarrel and nunthila_shortest (docs/TABLES.md says on which bodies). */
 #ifndef NUNTHILA_H
 #define NUNTHILA_H
 
@@ -31,7 +34,8 @@ extern "C" {
 #define NUNTHILA_LOG 6144
 
 /* The output may have any length; this is what the program typereport lends. A report can be longer, a text of nunthila_quarrel or
-   nunthila_shortest cannot: it has at most 2,048 lines of at most 29 bytes, and of nunthila_shortest a last one of at most 11. */
+   nunthila_shortest cannot: it has at most 2,048 lines of at most 29 bytes, and of nunthila_shortest a last one of at most 11. No NUL is
+   written behind a text: its length is told. */
 #define NUNTHILA_OUT 65536
 
 /* size_t: what is told of a call. In a shorter slice what fits is written; further elements of a longer one stay as they were. */
@@ -47,7 +51,8 @@ enum {
     NUNTHILA_LIMIT = 4,          /* a count over a limit; place: the line */
     NUNTHILA_REFERENCE = 5,      /* a number that breaks a reference rule; place: the line */
     NUNTHILA_LEVELS = 6,         /* too many levels; place: the line */
-    NUNTHILA_NO_ROOM = 9,        /* the output is too short for the text; not of nunthila_check */
+    NUNTHILA_NO_ROOM = 9,        /* the output is too short for the text; no place, also where the answer of the check has one; not of
+                                    nunthila_check */
     NUNTHILA_NO_RULE = 10,       /* a string, or a path that has no type; place: the node */
     NUNTHILA_UNTYPED_LOCAL = 11, /* a local that is not yet typed; place: the node */
     NUNTHILA_INSIDE_ITSELF = 12, /* a variable that would stand inside its own binding; place: the node; of nunthila_check and
@@ -63,7 +68,8 @@ enum {
 enum {
     NUNTHILA_TOLD_ANSWER = 0,     /* the answer of the check, also where nunthila_report returns 9; what nunthila_quarrel and
                                      nunthila_shortest return */
-    NUNTHILA_TOLD_HAS_PLACE = 1,  /* 1 if the answer has a place: 3 to 6, 10 to 13 */
+    NUNTHILA_TOLD_HAS_PLACE = 1,  /* 1 if told[NUNTHILA_TOLD_ANSWER] has a place: 3 to 6, 10 to 13. Where nunthila_report returns 9 this
+                                     is the place of the check; the PLACE of the report is then `-` */
     NUNTHILA_TOLD_PLACE = 2,      /* the place, else 0 */
     NUNTHILA_TOLD_TYPES = 3,      /* type lines of the file */
     NUNTHILA_TOLD_DEFS = 4,       /* def lines */
@@ -137,7 +143,8 @@ enum {
     NUNTHILA_NODE_EXTRA = 2,   /* a tag, below */
     NUNTHILA_NODE_NUMBER = 3,  /* the number that the tag speaks of */
     NUNTHILA_NODE_HAS_FINAL = 4,
-    NUNTHILA_NODE_FINAL = 5 /* the final type, which memory is cut from */
+    NUNTHILA_NODE_FINAL = 5 /* the final type, which memory is cut from. Only a bare variable or an array directly of one is resolved:
+                               the type of an array in an array, a reference or a lambda may still hold variables, bound or open */
 };
 enum {
     NUNTHILA_EXTRA_NONE = 0,
@@ -147,7 +154,8 @@ enum {
     NUNTHILA_EXTRA_INST = 4,        /* a path to this inst */
     NUNTHILA_EXTRA_ERROR = 5,       /* a path that failed; no number */
     NUNTHILA_EXTRA_OTHER = 6,       /* a path to anything else; no number */
-    NUNTHILA_EXTRA_LET = 7,         /* the type of a let */
+    NUNTHILA_EXTRA_LET = 7,         /* of a let: the type of its init as the rules gave it, else its declared type. It is not resolved
+                                       and may differ from the type of the let: memory must not be cut by it, but by FINAL */
     NUNTHILA_EXTRA_METHOD = 8       /* the def of a method call */
 };
 
@@ -161,7 +169,7 @@ enum {
     NUNTHILA_VAR_BOUND = 2,      /* the type that it is bound to */
     NUNTHILA_VAR_HAS_ORIGIN = 3, /* 0 for a literal */
     NUNTHILA_VAR_ORIGIN = 4,     /* the node that drew it */
-    NUNTHILA_VAR_MARKED = 5      /* 1 if it was negated */
+    NUNTHILA_VAR_MARKED = 5      /* 1 if it was negated, or if an equation passed the mark of another variable on to it */
 };
 enum { NUNTHILA_KIND_ANY = 0, NUNTHILA_KIND_INT = 1, NUNTHILA_KIND_FLOAT = 2 };
 
@@ -255,7 +263,7 @@ size_t nunthila_check(const uint8_t *s, size_t s_len,
 
 /* The same, and writes the report of the answer to out. Returns the answer of the check; the text is out[0] to
    out[told[NUNTHILA_TOLD_LENGTH] - 1], and the bytes behind it are as they were. Returns 9 where the text has no room: out is then 0
-   throughout, and the tables and the rest of told are those of the check. */
+   throughout, the PLACE of the report is `-`, and the tables and the rest of told, a place too, are those of the check. */
 size_t nunthila_report(const uint8_t *s, size_t s_len,
                        uint16_t *rows, size_t rows_len,
                        uint16_t *cells, size_t cells_len,

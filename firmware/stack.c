@@ -1,7 +1,7 @@
-/* The stack that nunthila_check, nunthila_quarrel and nunthila_shortest take. Each runs on a stack of its own that is filled with a pattern:
-   on bodies of up to 64 levels of each two forms of nodes in turn; on the same with an equation at the bottom that searches a lambda for a
-   variable, that goes four functions deep and searches there, or that fails; on chains and rings of lets; and on the bodies that the command
-   line names. The last three lines have the deepest of each function; the exit status is 1 if one is more than 128 KiB. */
+/* The stack that nunthila_check, nunthila_report, nunthila_quarrel and nunthila_shortest take. Each runs on a stack of its own that is filled
+   with a pattern: on bodies of up to 64 levels of each two forms of nodes in turn; on the same with an equation at the bottom that searches a
+   lambda for a variable, that goes four functions deep and searches there, or that fails; on chains and rings of lets; and on the bodies that
+   the command line names. The last four lines have the deepest of each function; the exit status is 1 if one is more than 128 KiB. */
 #define _XOPEN_SOURCE 700
 #include "nunthila.h"
 #include <stdio.h>
@@ -25,8 +25,8 @@ static ucontext_t here, there;
 /* How many subsets nunthila_shortest may test: of a chain all of one equation, and many of two. */
 enum { NUMBER = 1000 };
 
-enum { CHECK, QUARREL, SHORTEST, FUNCTIONS, NONE = FUNCTIONS };
-static const char *const function_name[FUNCTIONS] = {"check", "quarrel", "shortest"};
+enum { CHECK, REPORT, QUARREL, SHORTEST, FUNCTIONS, NONE = FUNCTIONS };
+static const char *const function_name[FUNCTIONS] = {"check", "report", "quarrel", "shortest"};
 static int function;
 static size_t answer;
 
@@ -36,6 +36,10 @@ static void run(void)
         answer = nunthila_check(body, length, rows, NUNTHILA_ROWS, cells, NUNTHILA_CELLS, nodes, NUNTHILA_NODES, vars, NUNTHILA_VARS,
                                 types, NUNTHILA_TYPES, errors, NUNTHILA_ERRORS, equations, NUNTHILA_LOG, memory, NUNTHILA_MEMORY, told,
                                 NUNTHILA_TOLD);
+    if (function == REPORT)
+        answer = nunthila_report(body, length, rows, NUNTHILA_ROWS, cells, NUNTHILA_CELLS, nodes, NUNTHILA_NODES, vars, NUNTHILA_VARS,
+                                 types, NUNTHILA_TYPES, errors, NUNTHILA_ERRORS, equations, NUNTHILA_LOG, memory, NUNTHILA_MEMORY, out,
+                                 NUNTHILA_OUT, told, NUNTHILA_TOLD);
     if (function == QUARREL)
         answer = nunthila_quarrel(body, length, rows, NUNTHILA_ROWS, cells, NUNTHILA_CELLS, nodes, NUNTHILA_NODES, vars, NUNTHILA_VARS,
                                   types, NUNTHILA_TYPES, errors, NUNTHILA_ERRORS, equations, NUNTHILA_LOG, memory, NUNTHILA_MEMORY, out,
@@ -191,7 +195,7 @@ enum { ANY = 100 };
 
 static void measure(const char *name, size_t checked, size_t quarreled)
 {
-    const size_t expected[FUNCTIONS] = {checked, quarreled, quarreled};
+    const size_t expected[FUNCTIONS] = {checked, checked, quarreled, quarreled};
     int of;
     for (of = 0; of < FUNCTIONS; of++) {
         size_t d = depth(of) - without;

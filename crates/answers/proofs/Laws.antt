@@ -50,9 +50,9 @@ handed-declined w k c p l u e z = rw e (record { by = (refl, emptied-with l u z)
 pub handed-refused : (w : Walked) (x : Fault) (k : ℕ) (l u : Lent) → w ≡ walked.Refused x k → Emptied l u → HandedBack w l (answer.Refused x k) u
 handed-refused w x k l u e z = rw e (record { by = (refl, emptied-with l u z) })
 
--- what cannot be
-pub handed-unread : (w : Walked) (l : Lent) (r : Answer) (u : Lent) → w ≡ walked.Unread → HandedBack w l r u
-handed-unread w l r u e = rw e (record { by = tt })
+-- 2
+pub handed-unread : (w : Walked) (l : Lent) → w ≡ walked.Unread → HandedBack w l answer.ShortTable l
+handed-unread w l e = rw e (record { by = (refl, refl) })
 
 -- all tables but the errors and the memory zero
 pub all-emptied : (l u : Lent) → u .rows ≡ zeros (l .rows) → u .cells ≡ zeros (l .cells) → u .nodes ≡ zeros (l .nodes) → u .vars ≡ zeros (l .vars) → u .types ≡ zeros (l .types)

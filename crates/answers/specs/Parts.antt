@@ -29,14 +29,14 @@ pub record Filled (m : List ℕ) (c : Record) (n : Counts) (nodes vars types log
   pub types-filled : n .types ≤ 512 → Fills m c (typeRoom (firstMade n) (length types)) (λ s. typeTable (length types) (madeTypes n s)) types′
   pub log-filled : Fills m c (logRoom (length m)) (λ s. padded (length log) (logTable (length log) (s .log))) log′
 
--- by what reading and typing gave: the answer r and the tables u, from the tables l
+-- by what reading and typing gave: the answer r and the tables u, from the tables l; where nothing was read, 2 and the tables as they were
 abbrev pub HandedAs : Walked → Lent → Answer → Lent → Type 0
 HandedAs (walked.Typed n c) l r u =
     (r ≡ answer.Checked (counted n c)) × (u .rows ≡ l .rows) × (u .cells ≡ l .cells)
     × Filled (l .memory) c n (l .nodes) (l .vars) (l .types) (l .log) (u .nodes) (u .vars) (u .types) (u .log)
 HandedAs (walked.Declined k c p) l r u = (r ≡ answer.Declined k p) × (u ≡ emptied l)
 HandedAs (walked.Refused x k) l r u = (r ≡ answer.Refused x k) × (u ≡ emptied l)
-HandedAs walked.Unread l r u = Unit {0}
+HandedAs walked.Unread l r u = (r ≡ answer.ShortTable) × (u ≡ l)
 
 -- the tables but the errors and the memory are handed back
 pub record HandedBack (w : Walked) (l : Lent) (r : Answer) (u : Lent) : Type 0 where

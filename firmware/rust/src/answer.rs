@@ -14,7 +14,7 @@ pub const LIMIT: usize = 4;
 pub const REFERENCE: usize = 5;
 /// There are too many levels. The place is the line.
 pub const LEVELS: usize = 6;
-/// The output is too short for the text. Not of `check`.
+/// The output is too short for the text. There is no place. Not of `check`.
 pub const NO_ROOM: usize = 9;
 /// A string, or a path that has no type. The place is the node.
 pub const NO_RULE: usize = 10;

@@ -308,12 +308,17 @@ impl<'a> Reported<'a> {
         self.answer
     }
 
-    /// How many bytes of the output are the text; none where it has no room.
+    /// The place of the answer: none for 9, else that of the check.
+    pub fn place(&self) -> Option<usize> {
+        self.checked.place().filter(|_| self.answer != NO_ROOM)
+    }
+
+    /// How many bytes of the output are the text, behind which there is no NUL; none where it has no room.
     pub fn length(&self) -> Option<usize> {
         (self.answer != NO_ROOM).then_some(self.checked.told[TOLD - 1])
     }
 
-    /// What was checked, with the answer of the check, also where that of the report is 9.
+    /// What was checked, with the answer of the check and its place, also where that of the report is 9.
     pub fn checked(&self) -> &Checked<'a> {
         &self.checked
     }
@@ -341,7 +346,12 @@ impl<'a> Quarreled<'a> {
         self.answer
     }
 
-    /// How many bytes of the output are the text; none on a refusal.
+    /// The place of the answer: that of the check where the answer is 3 to 6, 10, 11 or 13; none for the others.
+    pub fn place(&self) -> Option<usize> {
+        self.checked.place()
+    }
+
+    /// How many bytes of the output are the text, behind which there is no NUL; none on a refusal.
     pub fn length(&self) -> Option<usize> {
         (self.answer == CHECKED).then_some(self.checked.told[TOLD - 1])
     }

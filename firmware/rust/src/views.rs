@@ -17,7 +17,8 @@ const INPUTS_FROM: usize = 20_480;
 pub struct Node {
     /// The type that the rules gave, perhaps a variable's; none of a node that no rule typed.
     pub raw: Option<u16>,
-    /// The final type, which memory is cut from.
+    /// The final type, which memory is cut from. Only a bare variable or an array directly of one is resolved: the type of an array in an
+    /// array, a reference or a lambda may still hold variables, bound or open.
     pub fin: Option<u16>,
     /// What else is known of the node.
     pub extra: Extra,
@@ -40,7 +41,8 @@ pub enum Extra {
     Error,
     /// A path to anything else.
     Other,
-    /// The type of a `let`.
+    /// Of a `let`: the type of its init as the rules gave it, else its declared type. It is not resolved and may differ from the type of
+    /// the `let`: memory must not be cut by it, but by [`Node::fin`].
     Let(u16),
     /// The definition that a method call calls.
     Method(u16),
@@ -90,7 +92,7 @@ pub struct Var {
     pub bound: Option<u16>,
     /// The node that drew it; none for a literal.
     pub origin: Option<u16>,
-    /// Whether it was negated.
+    /// Whether it was negated, or an equation passed the mark of another variable on to it.
     pub marked: bool,
 }
 

@@ -169,7 +169,11 @@ fn a_short_output_is_answered_9() {
     }
     let mut out = [7u8; 10];
     let reported = checker.report(b"", &mut out);
-    assert_eq!((reported.answer(), reported.checked().answer(), reported.place()), (9, 3, Some(1)));
+    assert_eq!((reported.answer(), reported.place()), (9, None));
+    assert_eq!((reported.checked().answer(), reported.checked().place()), (3, Some(1)));
+    let mut longer = [7u8; 11];
+    let reported = checker.report(b"", &mut longer);
+    assert_eq!((reported.answer(), reported.place(), &longer), (3, Some(1), b"answer=3,1\n"));
     assert_eq!(out, [0; 10]);
 }
 

@@ -34,4 +34,4 @@ hand-back-spec =
     (λ c. search needs)
     (λ c. search needs)
     (λ c. handed-refused _ _ _ _ _ ((c .before .before .before .before .before .before .before .before .before .before .before .before .before .before .before .before .before .before .before .before .w3 .given .1)) ((c .before .before .before .before .before .before .before .before .before .before .before .before .clear2 .ensures), refl, refl))
-    (λ c. handed-unread _ _ _ _ ((c .enum-told .given .1))))
+    (λ c. handed-unread _ _ ((c .enum-told .given .1))))
