@@ -2,21 +2,20 @@
 -- Assumes nothing.
 use Prim.Native.Nat.{ℕ, zero, suc, _+_, _-_, _<_, _≤_, zero-le}
 use native.Mathlib.Omega.{arith}
-use mathlib.Core.Path.{_≡_, refl, sym, ap, _∙_}
+use mathlib.Core.Path.{_≡_, refl, sym, ap}
 use mathlib.Core.Logic.{_⊎_, inl, inr}
 use mathlib.Core.List.{List, [], _∷_}
 use mathlib.Core.Bool.{Bool, true, false, cond}
-use lib.Dec.{leb, ltb, eqb}
-use lib.ListN.{length, drop}
+use lib.Dec.{ltb, eqb}
+use lib.ListN.{length}
 use borrow.Author.Tests.{le-leb, le-ltb, ltb-true}
 use Rattle.lex.specs.Text.{onto, split, partsFrom}
 use Rattle.forms.specs.declared.Fault.{Fault}
 use Rattle.forms.specs.declared.Fault.the-variants as fault
 use Rattle.forms.specs.Form.{key-fn}
-use Rattle.refs.specs.declared.Counts.{Counts}
 use Rattle.body.specs.declared.State.{State}
 use Rattle.body.specs.declared.Answer.the-variants as answer
-use Rattle.body.specs.Body.{most-bytes, rows-length, cells-length, first, Stepped, bad, next, stepOf, firstAhead, Ended, refused, read, finishOf, proceed, linesFrom, Held, held, zeros, settle, bodyOf, faultNumber}
+use Rattle.body.specs.Body.{most-bytes, rows-length, cells-length, first, Stepped, bad, next, stepOf, firstAhead, Ended, refused, read, finishOf, proceed, linesFrom, held, zeros, settle, bodyOf, faultNumber}
 use Rattle.well_formed.specs.Behind.{onwards, behindLines, behindFile}
 
 -- the first l lines of a file, each with its line feed; the whole file where it has fewer
