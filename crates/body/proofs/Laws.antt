@@ -13,17 +13,18 @@ use borrow.Author.Fill.{fill-more}
 use borrow.Author.Tests.{lt-ltb, le-ltb, eq-eqb, ne-eqb}
 use Rattle.lex.specs.Text.{before, partsFrom}
 use Rattle.lex.proofs.Laws.{first-part, no-part}
-use Rattle.forms.proofs.Laws.{rest}
+use Rattle.forms.proofs.Laws.{rest, short-line}
 use Rattle.forms.specs.declared.Fault.{Fault}
 use Rattle.forms.specs.declared.Fault.the-variants as fault
 use Rattle.forms.specs.declared.Form.{Form}
 use Rattle.forms.specs.declared.Line.{Line}
 use Rattle.forms.specs.declared.Line.the-variants as line
-use Rattle.forms.specs.Form.{key-fn, keyOf, formAt, parseLine, lay, shown, widthOf}
+use Rattle.forms.specs.Form.{key-fn, keyOf, formAt, most-value, lineOf, lay, shown, widthOf}
 use Rattle.refs.specs.declared.Counts.{Counts}
 use Rattle.refs.specs.declared.Refs.{Refs}
 use Rattle.refs.specs.declared.Refs.the-variants as found
-use Rattle.refs.specs.Refs.{refsFrom, linking}
+use Rattle.refs.specs.Refs.{most-fields, linksOf, linking}
+use Rattle.refs.proofs.Laws.{links-all}
 use Rattle.body.specs.declared.State.{State}
 use Rattle.body.specs.declared.Step.{Step}
 use Rattle.body.specs.declared.Step.the-variants as step
@@ -51,10 +52,10 @@ module _ (st : State) (k f m : ℕ) (cells rows : List ℕ) (j l : ℕ) (jq : j 
     unfolding judged
     repeated t = rw (← jq, ← lq, lt-ltb j l h, ← bq, t)
 
-    module _ (t : b ≡ false) (g : Form) (gq : g ≡ formAt f) (r : Refs) (rows′ : List ℕ) (rq : linking r rows′ ≡ refsFrom m (st .counts) g 0 (st .counts .fields) cells 0 rows) where
+    module _ (t : b ≡ false) (g : Form) (gq : g ≡ formAt f) (room : st .counts .fields + m ≤ most-fields) (r : Refs) (rows′ : List ℕ) (rq : linking r rows′ ≡ linksOf (st .counts) g m cells rows) where
       linked-so : judged st k f m cells rows ≡ placed st k f m cells (linking r rows′)
       unfolding judged
-      linked-so = rw (← jq, ← lq, lt-ltb j l h, ← bq, t, ← gq, rq)
+      linked-so = rw (← jq, ← lq, lt-ltb j l h, ← bq, t, ← gq, rq, links-all (st .counts) g m cells rows room)
 
       pub unlinked-line : r ≡ found.Bad → judged st k f m cells rows ≡ bad fault.Reference
       unfolding placed
@@ -78,8 +79,8 @@ pub rest-length : (s : List ℕ) (a : ℕ) → length (take (length s - a) (drop
 rest-length s a = ap length (rest s a) ∙ length-drop a s
 
 -- the part from p to e
-pub part-length : (s : List ℕ) (p e : ℕ) → e ≤ length s → length (take (e - p) (drop p s)) ≡ e - p
-part-length s p e h = length-take-le (e - p) (drop p s) (rw length-drop (omega arith))
+pub part-length : (s : List ℕ) (p e : ℕ) → e - p ≤ length s - p → length (take (e - p) (drop p s)) ≡ e - p
+part-length s p e h = length-take-le (e - p) (drop p s) (rw length-drop h)
 
 -- the fields behind a step that goes on
 pub fields-next : (r : Step) (x : State) (m : ℕ) → r ≡ step.Next x → fieldsIn r ≤ m → x .counts .fields ≤ m
@@ -102,10 +103,10 @@ module _ (l : List ℕ) (st : State) (cells rows : List ℕ) (q : ℕ) (e : q �
     unfolding stepOf
     out-of-order f = rw (at-q, lt-ltb q (length l) h, the-key, ← bq, f)
 
-    module _ (t : b ≡ true) (g : Line) (cs : List ℕ) (gq : shown g cs ≡ lay (parseLine k (take (length l - (q + 1)) (drop (q + 1) l))) cells (st .counts .fields)) where
+    module _ (t : b ≡ true) (g : Line) (cs : List ℕ) (short : length l ≤ most-value) (gq : shown g cs ≡ lay (lineOf k (take (length l - (q + 1)) (drop (q + 1) l))) cells (st .counts .fields)) where
       value-so : stepOf l st cells rows ≡ valued st k (shown g cs) rows
       unfolding stepOf
-      value-so = rw (at-q, lt-ltb q (length l) h, the-key, ← bq, t, gq, rest l (q + 1))
+      value-so = rw (at-q, lt-ltb q (length l) h, the-key, ← bq, t, gq, rest l (q + 1), short-line k (drop (q + 1) l) (rw length-drop (omega arith)))
 
       pub bad-value : (x : Fault) → g ≡ line.Fault x → stepOf l st cells rows ≡ bad x
       bad-value x f = value-so ∙ ap (λ (y : Line). valued st k (shown y cs) rows) f
@@ -164,7 +165,7 @@ module _ (w : Ended) (s : List ℕ) (p n : ℕ) (st : State) (cells rows : List 
       same = omega arith
 
   module _ (e : ℕ) (h : p < length s) (q : e ≡ p + before 10 (drop p s)) where
-    pub unended : e ≤ length s → length s ≤ e → w ≡ refused fault.Form n
+    pub unended : e - p ≤ length s - p → length s ≤ e → w ≡ refused fault.Form n
     unfolding linesFrom
     unended b l =
         inv

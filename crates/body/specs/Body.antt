@@ -105,7 +105,7 @@ pub data Stepped : Type 0 where
 
 -- the row of a line whose references are right
 unfoldable pub placed : State → ℕ → ℕ → ℕ → List ℕ → Linked → Stepped
-placed st k f m cells unlinked = bad fault.Reference
+placed st k f m cells (unlinked rows) = bad fault.Reference
 placed st k f m cells (linked d rows) =
     next (advance st k m (levelsOver f d)) cells
     (putRow rows (baseOf k + countOf (st .counts) k) f (st .counts .fields) m (levelsOver f d))
@@ -120,7 +120,7 @@ judged st k f m cells rows =
 
 -- a line whose value was read
 abbrev pub valued : State → ℕ → Laid → List ℕ → Stepped
-valued st k (faulty x) rows = bad x
+valued st k (faulty x cells) rows = bad x
 valued st k (laid f m cells) rows = judged st k f m cells rows
 
 -- one line: its key, the value behind the first equals sign, and what the value gives

@@ -283,7 +283,7 @@ fn step_line(l: &[u8], st: State, cells: &mut [u16], rows: &mut [u16]) -> Step
     let was = st.key;
     if in_order(was, k) {
         let at = st.counts.fields;
-        match forms::read_line(k, &l[q + 1..], cells, at as usize) {
+        match forms::read_line(k, &l[q + 1..], cells, at) {
             Line::Row(f, m) => judge(st, k, f, m as u16, cells, rows),
             Line::Fault(x) => Step::Bad(x),
         }

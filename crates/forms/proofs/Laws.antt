@@ -12,8 +12,8 @@ use lib.Dec.{eqb, ltb}
 use lib.ListN.{length, getD, take, drop, set, drop-of-length-le, length-drop, List·getD-eq-default}
 use lib.Seq.{take-all}
 use borrow.Author.Tests.{lt-ltb, le-ltb, lt-leb, le-leb, ne-eqb, eqb-true, eqb-false}
-use Rattle.lex.specs.Text.{numberOf, digitsFrom, before, fieldsFrom, same, pack, Scanned}
-use Rattle.lex.proofs.Laws.{first-part, no-part}
+use Rattle.lex.specs.Text.{numberOf, digitsFrom, before, fieldsFrom, same, pack, scanOf}
+use Rattle.lex.proofs.Laws.{first-part, no-part, scan-number}
 use Rattle.lex.specs.declared.Num.{Num}
 use Rattle.lex.specs.declared.Num.the-variants as num
 use Rattle.lex.specs.declared.Field.{Field}
@@ -29,7 +29,7 @@ use Rattle.forms.specs.declared.Line.the-variants as line
 use Rattle.forms.specs.declared.Cell.{Cell}
 use Rattle.forms.specs.declared.Read.{Read}
 use Rattle.forms.specs.declared.Read.the-variants.{Is, Bad}
-use Rattle.forms.specs.Form.{keyOf, LineForm, forms, no-form, formAt, readAs, readOf, cell, ending, fieldAt, endIn, valued, named, letterOf, optionalOf, binaryOf, unaryOf, tagOf, taggedOf, resolutionOf, behindOf, pairOf, kindAt, Cells, refused, cells, prepend, cellsFrom, store, storeFrom, Filled, unfilled, filled, fill, formOf, counted, withCells, parseLine, startOf, countOf, Laid, faulty, lay, shown, outcome, countIn, widthOf}
+use Rattle.forms.specs.Form.{keyOf, LineForm, forms, no-form, formAt, readAs, readOf, cell, ending, fieldAt, endIn, valued, named, letterOf, optionalOf, binaryOf, unaryOf, tagOf, taggedOf, resolutionOf, behindOf, pairOf, kindAt, Cells, refused, cells, prepend, cellsFrom, store, storeFrom, Filled, unfilled, filled, fill, formOf, counted, withCells, parseLine, most-value, lineOf, startOf, countOf, Laid, faulty, lay, shown, outcome, countIn, widthOf}
 use Rattle.forms.specs.Words.{keyNumbered, key-by-number, indexNumbered, form-by-number}
 
 -- a field read by its class
@@ -159,10 +159,10 @@ module _ (k p : ℕ) (v : List ℕ) where
   field-to e q = rw (q, add-sub-cancel-left p (before 44 (drop p v)))
 
   -- a number that was found in one pass
-  pub scanned : (s : Field) (n e : ℕ) (c : Cell) → 16 ≤ k → k < 48 → Scanned v p s → s ≡ field.Number n e → c ≡ cell 0 1 n
+  pub scanned : (s : Field) (n e : ℕ) (c : Cell) → p ≤ length v → 16 ≤ k → k < 48 → s ≡ scanOf v p → s ≡ field.Number n e → c ≡ cell 0 1 n
       → ((p ≤ e) × (e ≤ length v)) × (taken.Is c e ≡ fieldAt k v p)
-  scanned s n e c l u d q m =
-      let t : Scanned v p (field.Number n e) = rw q at d in
+  scanned s n e c h l u d q m =
+      let t = scan-number v p n e h (sym d ∙ q) in
       (t .0, sym (field-to e (t .1) ∙ rw (number-read k n (take (e - p) (drop p v)) l u (t .2), m)))
 
   module _ (e : ℕ) (q : e ≡ p + before 44 (drop p v)) (r : Read) (d : r ≡ readOf k (take (e - p) (drop p v))) where
@@ -191,8 +191,8 @@ end-bounds p n e r c q h = rw q at h
 module _ (w : Filled) (v : List ℕ) (f : Form) (i p at : ℕ) (t : List ℕ) (inv : w ≡ fill i t (at + i) (cellsFrom f i (fieldsFrom p v))) where
   module _ (k : ℕ) (r : Taken) (h : p ≤ length v) (kq : k ≡ kindAt f i) (rq : r ≡ fieldAt k v p) where
     -- a field that is not of its kind
-    pub turn-bad : r ≡ taken.Bad → w ≡ unfilled
-    unfolding fill cellsFrom
+    pub turn-bad : r ≡ taken.Bad → w ≡ unfilled t
+    unfolding fill cellsFrom storeFrom
     turn-bad b =
         let e : ℕ = p + before 44 (drop p v) in
         let d : readOf k (take (e - p) (drop p v)) ≡ Bad = ending-bad e _ (sym b ∙ rq ∙ field-to k p v e refl) in
@@ -207,7 +207,7 @@ module _ (w : Filled) (v : List ℕ) (f : Form) (i p at : ℕ) (t : List ℕ) (i
         inv ∙ rw (first-part 44 v p e h refl, ← kq, d .0, s, d .1) (go (cellsFrom f (i + 1) (fieldsFrom (e + 1) v)))
       where
         go : (l : Cells) → fill i t (at + i) (prepend (Is c) l) ≡ fill (i + 1) (store t (at + i) c) (at + (i + 1)) l
-        go refused = refl
+        go (refused l) = ap (λ j. unfilled (storeFrom (store t (at + i) c) j l)) (omega arith)
         go (cells l) = ap₂ (λ n j. filled n (storeFrom (store t (at + i) c) j l)) (omega arith) (omega arith)
 
   -- no field is left
@@ -217,13 +217,13 @@ module _ (w : Filled) (v : List ℕ) (f : Form) (i p at : ℕ) (t : List ℕ) (i
 
 -- what was read of a line, by the cells that were stored
 unfoldable judge : ℕ → Form → Filled → Laid
-judge i f unfilled = faulty fault.Form
+judge i f (unfilled t) = faulty fault.Form t
 judge i f (filled n t) = shown (countOf i f n) t
 
 -- that is the line laid in the table
 judged : (i : ℕ) (f : Form) (t : List ℕ) (at : ℕ) (l : Cells) → judge i f (fill 0 t at l) ≡ lay (counted i f l) t at
 unfolding judge fill countOf
-judged i f t at refused = refl
+judged i f t at (refused l) = refl
 judged i f t at (cells l) = rw (zero-add (length l)) (go (ltb (length l) (f .4)) (ltb (f .5) (length l)))
   where
     go : (a b : Bool) → shown (cond a (line.Fault fault.Form) (cond b (line.Fault fault.Limit) (line.Row i (length l)))) (storeFrom t at l)
@@ -232,8 +232,18 @@ judged i f t at (cells l) = rw (zero-add (length l)) (go (ltb (length l) (f .4))
     go false true = refl
     go false false = refl
 
+-- a value that is too long
+pub long-line : (k at : ℕ) (v t : List ℕ) → most-value < length v → lay (lineOf k v) t at ≡ faulty fault.Limit t
+unfolding lineOf storeFrom
+long-line k at v t h = rw (lt-ltb most-value (length v) h)
+
+-- one that is not
+pub short-line : (k : ℕ) (v : List ℕ) → length v ≤ most-value → lineOf k v ≡ parseLine k v
+unfolding lineOf
+short-line k v h = rw (le-ltb most-value (length v) h)
+
 -- a line
-module _ (k e w i at : ℕ) (v t : List ℕ) (eq : e ≡ before 44 v) (wq : w ≡ pack (take e v)) (iq : i ≡ indexNumbered k w forms) where
+module _ (k e w i at : ℕ) (v t : List ℕ) (short : length v ≤ most-value) (eq : e ≡ before 44 v) (wq : w ≡ pack (take e v)) (iq : i ≡ indexNumbered k w forms) where
   -- the end of the word
   at-comma : before 44 v ≡ e
   at-comma = sym eq
@@ -244,23 +254,23 @@ module _ (k e w i at : ℕ) (v t : List ℕ) (eq : e ≡ before 44 v) (wq : w �
   the-form = rw (at-comma, iq, wq) (sym (form-by-number k (take e v)))
 
   -- no form of its key and word
-  pub no-line : 30 ≤ i → lay (parseLine k v) t at ≡ faulty fault.Form
-  unfolding parseLine
-  no-line h = rw (the-form, le-ltb i 30 h)
+  pub no-line : 30 ≤ i → lay (lineOf k v) t at ≡ faulty fault.Form t
+  unfolding parseLine storeFrom
+  no-line h = rw (short-line k v short, the-form, le-ltb i 30 h)
 
   module _ (h : i < 30) (f : Form) (fq : f ≡ formAt i) (b : ℕ) (bq : b ≡ startOf k (length v) e) (g : Got) (u : List ℕ) (gq : outcome g u ≡ fill 0 t at (cellsFrom f 0 (fieldsFrom b v))) where
     -- the line by the fields that were read
-    valued-line : lay (parseLine k v) t at ≡ judge i f (outcome g u)
+    valued-line : lay (lineOf k v) t at ≡ judge i f (outcome g u)
     unfolding parseLine
-    valued-line = rw (the-form, lt-ltb i 30 h, ← fq, at-comma, ← bq, gq) (sym (judged i f t at (cellsFrom f 0 (fieldsFrom b v))))
+    valued-line = rw (short-line k v short, the-form, lt-ltb i 30 h, ← fq, at-comma, ← bq, gq) (sym (judged i f t at (cellsFrom f 0 (fieldsFrom b v))))
 
     -- a field that is not of its kind
-    pub bad-line : g ≡ got.Bad → lay (parseLine k v) t at ≡ faulty fault.Form
+    pub bad-line : g ≡ got.Bad → lay (lineOf k v) t at ≡ faulty fault.Form u
     unfolding judge
     bad-line q = valued-line ∙ ap (λ (x : Got). judge i f (outcome x u)) q
 
     -- n fields of their kinds
-    pub good-line : (n : ℕ) (r : Line) → g ≡ got.Count n → r ≡ countOf i f n → lay (parseLine k v) t at ≡ shown r u
+    pub good-line : (n : ℕ) (r : Line) → g ≡ got.Count n → r ≡ countOf i f n → lay (lineOf k v) t at ≡ shown r u
     unfolding judge
     good-line n r q p = valued-line ∙ ap (λ (x : Got). judge i f (outcome x u)) q ∙ ap (λ (x : Line). shown x u) (sym p)
 

@@ -299,14 +299,14 @@ abbrev pub endIn : ℕ → Taken → ℕ
 endIn p (taken.Is c e) = e
 endIn p taken.Bad = p
 
--- the cells of some fields, where each is of its kind
+-- the cells of some fields: of all, or of those before the first that is not of its kind
 pub data Cells : Type 0 where
-  refused : Cells
+  refused : List Cell → Cells
   cells : List Cell → Cells
 
 abbrev pub prepend : Read → Cells → Cells
-prepend Bad r = refused
-prepend (Is c) refused = refused
+prepend Bad r = refused []
+prepend (Is c) (refused l) = refused (c ∷ l)
 prepend (Is c) (cells l) = cells (c ∷ l)
 
 -- the cells of a line's fields from field i on
@@ -314,9 +314,9 @@ unfoldable pub cellsFrom : Form → ℕ → List (List ℕ) → Cells
 cellsFrom f i [] = cells []
 cellsFrom f i (s ∷ ss) = prepend (readOf (kindAt f i) s) (cellsFrom f (i + 1) ss)
 
--- what a line's value is: a fault, or its form's number and its cells
+-- what a line's value is: a fault and the cells that were read before it, or its form's number and its cells
 pub data Parsed : Type 0 where
-  wrong : Fault → Parsed
+  wrong : Fault → List Cell → Parsed
   parsed : ℕ → List Cell → Parsed
 
 -- where the fields begin: behind the word, and of a key with no words at the start, where there is any byte
@@ -329,11 +329,11 @@ countOf i f n = cond (ltb n (f .4)) (line.Fault fault.Form) (cond (ltb (f .5) n)
 
 -- the cells of a line of as many fields as the form has
 abbrev pub withCells : Line → List Cell → Parsed
-withCells (line.Fault x) l = wrong x
+withCells (line.Fault x) l = wrong x l
 withCells (line.Row i n) l = parsed i l
 
 abbrev pub counted : ℕ → Form → Cells → Parsed
-counted i f refused = wrong fault.Form
+counted i f (refused l) = wrong fault.Form l
 counted i f (cells l) = withCells (countOf i f (length l)) l
 
 -- a line's value by its key
@@ -341,7 +341,15 @@ unfoldable pub parseLine : ℕ → List ℕ → Parsed
 parseLine k v =
     cond (ltb (formOf k v) 30)
     (counted (formOf k v) (formAt (formOf k v)) (cellsFrom (formAt (formOf k v)) 0 (fieldsFrom (startOf k (length v) (before 44 v)) v)))
-    (wrong fault.Form)
+    (wrong fault.Form [])
+
+-- the most bytes of a value, as many as of a file
+abbrev pub most-value : ℕ
+most-value = 65536
+
+-- a line's value of at most so many bytes; a longer one is over a limit
+unfoldable pub lineOf : ℕ → List ℕ → Parsed
+lineOf k v = cond (ltb most-value (length v)) (wrong fault.Limit []) (parseLine k v)
 
 -- the cell j of a table of fields becomes c, where it is in it
 unfoldable pub store : List ℕ → ℕ → Cell → List ℕ
@@ -352,14 +360,14 @@ unfoldable pub storeFrom : List ℕ → ℕ → List Cell → List ℕ
 storeFrom t j [] = t
 storeFrom t j (c ∷ cs) = storeFrom (store t j c) (j + 1) cs
 
--- the number of cells and the table that holds them
+-- the table with the cells that were read, and their number where each field is of its kind
 pub data Filled : Type 0 where
-  unfilled : Filled
+  unfilled : List ℕ → Filled
   filled : ℕ → List ℕ → Filled
 
 -- cells behind i others, stored from j on
 unfoldable pub fill : ℕ → List ℕ → ℕ → Cells → Filled
-fill i t j refused = unfilled
+fill i t j (refused l) = unfilled (storeFrom t j l)
 fill i t j (cells l) = filled (i + length l) (storeFrom t j l)
 
 abbrev pub countIn : Got → ℕ
@@ -367,21 +375,21 @@ countIn got.Bad = 0
 countIn (got.Count n) = n
 
 abbrev pub outcome : Got → List ℕ → Filled
-outcome got.Bad t = unfilled
+outcome got.Bad t = unfilled t
 outcome (got.Count n) t = filled n t
 
--- a line that was read: the fault, or the form's number, the number of fields and the table
+-- a line that was read: the fault, or the form's number and the number of fields, and the table
 pub data Laid : Type 0 where
-  faulty : Fault → Laid
+  faulty : Fault → List ℕ → Laid
   laid : ℕ → ℕ → List ℕ → Laid
 
 -- a line's cells stored from j on
 abbrev pub lay : Parsed → List ℕ → ℕ → Laid
-lay (wrong x) t j = faulty x
+lay (wrong x l) t j = faulty x (storeFrom t j l)
 lay (parsed i l) t j = laid i (length l) (storeFrom t j l)
 
 abbrev pub shown : Line → List ℕ → Laid
-shown (line.Fault x) t = faulty x
+shown (line.Fault x) t = faulty x t
 shown (line.Row i n) t = laid i n t
 
 abbrev pub widthOf : Line → ℕ

@@ -6,7 +6,7 @@ ghost use Prim.Native.Nat.{_+_, _≤_, _<_};
 ghost use lib.ListN.{length, take, drop};
 ghost use Rattle.lex.specs.declared.Num.the-variants as num;
 ghost use Rattle.lex.specs.Text.{numberOf, before, fieldsFrom};
-ghost use Rattle.forms.specs.Form.{forms as forms·T, key-type, key-node, keyOf, formAt, kindAt, readAs, readOf, optionalOf, binaryOf, unaryOf, resolutionOf, pairOf, behindOf, store, fieldAt, endIn, cellsFrom, fill, outcome, letterOf, tagOf, taggedOf, named, countOf, startOf, shown, lay, parseLine, countIn, widthOf};
+ghost use Rattle.forms.specs.Form.{forms as forms·T, key-type, key-node, keyOf, formAt, kindAt, readAs, readOf, optionalOf, binaryOf, unaryOf, resolutionOf, pairOf, behindOf, store, fieldAt, endIn, cellsFrom, fill, outcome, letterOf, tagOf, taggedOf, named, countOf, startOf, shown, lay, lineOf, countIn, widthOf};
 ghost use Rattle.forms.specs.Words.{keyNumbered, indexNumbered};
 
 // The keys, in the order in which they come. NO_KEY is any other word.
@@ -124,6 +124,9 @@ pub const FORM_PATH: u16 = 28;
 
 // How many there are.
 pub const MOST_FORMS: usize = 30;
+
+// The most bytes of a value, as many as of a file.
+const MOST_VALUE: usize = 65536;
 
 // What a field holds: a name; a tag, which is 0 for `-`, 1 for a number and 1 to 6 for l f c i e o; and a value.
 pub struct Cell {
@@ -518,7 +521,7 @@ fn put_cell(t: &mut [u16], j: usize, c: Cell)
     }
 }
 
-// Reads the fields from start on as those of the form f, and stores their cells from at on.
+// Reads the fields from start on as those of the form f, up to the first that is not of its kind, and stores their cells from at on.
 fn fields(v: &[u8], start: usize, f: Form, t: &mut [u16], at: usize) -> Got
     requires { ⌜ (length (now v) ≤ 65536) × (start ≤ length (now v) + 1) × (at ≤ 65536) ⌝ }
     ensures within { λ r. ⌜ countIn r ≤ length (now (v .entry)) + 1 ⌝ }
@@ -568,12 +571,15 @@ fn start_of(k: u8, n: usize, e: usize) -> usize
     0
 }
 
-// Reads a line's value, of the key k, and stores its cells from at on.
-pub fn read_line(k: u8, v: &[u8], t: &mut [u16], at: usize) -> Line
-    requires { ⌜ (length (now v) ≤ 65536) × (at ≤ 65536) ⌝ }
+// Reads a line's value, of the key k, and stores its cells from at on, as far as they were read; a value longer than any file is over a
+// limit.
+pub fn read_line(k: u8, v: &[u8], t: &mut [u16], at: u16) -> Line
     ensures within { λ r. ⌜ widthOf r ≤ length (now (v .entry)) + 1 ⌝ }
-    ensures { λ r. ⌜ shown r (now (t .exit)) ≡ lay (parseLine k (now (v .entry))) (now (t .entry)) at ⌝ }
+    ensures { λ r. ⌜ shown r (now (t .exit)) ≡ lay (lineOf k (now (v .entry))) (now (t .entry)) at ⌝ }
 {
+    if MOST_VALUE < v.len() {
+        return Line::Fault(Fault::Limit);
+    }
     let w = lex::word_to(v, 44);
     let e = w.end;
     let i = form_index(k, w.number);
@@ -581,7 +587,7 @@ pub fn read_line(k: u8, v: &[u8], t: &mut [u16], at: usize) -> Line
         return Line::Fault(Fault::Form);
     }
     let f = form_at(i);
-    match fields(v, start_of(k, v.len(), e), f, t, at) {
+    match fields(v, start_of(k, v.len(), e), f, t, at as usize) {
         Got::Count(n) => count_of(i as u8, f, n),
         Got::Bad => Line::Fault(Fault::Form),
     }

@@ -1,6 +1,6 @@
 -- Laws of the definitions in specs/Text.antt, at a place i of a list: one step, and the end.
 -- Assumes nothing.
-use Prim.Native.Nat.{ℕ, suc, _+_, _*_, _-_, _<_, _≤_}
+use Prim.Native.Nat.{ℕ, suc, _+_, _*_, _-_, _<_, _≤_, zero-le}
 use mathlib.Core.Path.{_≡_, refl, sym, _∙_}
 use mathlib.Core.List.{List, [], _∷_}
 use mathlib.Core.Bool.{Bool, true, false, cond}
@@ -11,9 +11,10 @@ use lib.Dec.{leb, ltb, eqb, leb·suc-suc}
 use lib.ListN.{length, getD, take, drop, drop-of-length-le, length-drop}
 use lib.Seq.{drop-cons, drop-drop}
 use borrow.Author.Tests.{lt-leb, le-leb, lt-ltb, le-ltb, eq-eqb, ne-eqb, ltb-true, ltb-false}
-use Rattle.lex.specs.Text.{numberOf, digitsFrom, before, packFrom, letter, split, partsFrom}
+use Rattle.lex.specs.Text.{numberOf, digitsFrom, before, packFrom, letter, split, partsFrom, numbered, scanOf}
 use Rattle.lex.specs.declared.Num.{Num}
 use Rattle.lex.specs.declared.Num.the-variants.{Is, Bad}
+use Rattle.lex.specs.declared.Field.the-variants.{Number, Other}
 
 -- the rest of a list that is not at its end
 pub next : (s : List ℕ) (i x : ℕ) → i < length s → x ≡ getD s i 0 → drop i s ≡ x ∷ drop (i + 1) s
@@ -127,27 +128,92 @@ no-zero : (s : List ℕ) (p : ℕ) → p < length s → (getD s p 0 ≡ 48 → �
 unfolding before
 no-zero s p h z q = rw (next s p (getD s p 0) h refl, ne-eqb (getD s p 0) 44 q) (plain (getD s p 0 ∷ take (before 44 (drop (p + 1) s)) (drop (p + 1) s)) z (λ e. omega (arith, e)))
 
+-- a field that is no number
+no-number : (s : List ℕ) (p : ℕ) → numberOf (part 44 (drop p s)) ≡ Bad → scanOf s p ≡ Other
+unfolding scanOf
+no-number s p e = rw e (by (eqb (getD s p 0) 48))
+  where
+    by : (b : Bool) → cond b Other Other ≡ Other
+    by true = refl
+    by false = refl
+
+-- no field is behind the end,
+pub scan-past : (s : List ℕ) (p : ℕ) → length s ≤ p → scanOf s p ≡ Other
+unfolding before numberOf
+scan-past s p h = no-number s p (rw (drop-of-length-le s h))
+
+-- an empty field is no number,
+pub scan-empty : (s : List ℕ) (p : ℕ) → p < length s → getD s p 0 ≡ 44 → scanOf s p ≡ Other
+unfolding before numberOf
+scan-empty s p h e = no-number s p (rw (next s p (getD s p 0) h refl, eq-eqb (getD s p 0) 44 e))
+
+-- and one that begins with 0 is left to a second look
+pub scan-zero : (s : List ℕ) (p : ℕ) → getD s p 0 ≡ 48 → scanOf s p ≡ Other
+unfolding scanOf
+scan-zero s p e = rw (eq-eqb (getD s p 0) 48 e)
+
 -- the digits of a field from p on, where they come down to those from i on
 module _ (s : List ℕ) (p n i : ℕ) (inv : digitsFrom 0 (part 44 (drop p s)) ≡ digitsFrom n (part 44 (drop i s))) where
   pub digit-of : (x : ℕ) → i < length s → x ≡ getD s i 0 → (getD s i 0 ≡ 44 → ⊥) → 48 ≤ x → x ≤ 57 → digitsFrom 0 (part 44 (drop p s)) ≡ digitsFrom (n * 10 + (x - 48)) (part 44 (drop (i + 1) s))
   unfolding digitsFrom before
   digit-of x h e q l u = inv ∙ rw (next s i x h e, ne-eqb x 44 (λ z. q (sym e ∙ z)), le-leb 48 x l, le-leb x 57 u)
 
-  module _ (b : p + before 44 (drop p s) ≡ i + before 44 (drop i s)) (h : p < length s) (z : getD s p 0 ≡ 48 → ⊥) (q : getD s p 0 ≡ 44 → ⊥) (m : n ≤ 65535) where
-    -- a field that ends at i
-    to-end : p + before 44 (drop p s) ≡ i → part 44 (drop i s) ≡ [] → numberOf (take (i - p) (drop p s)) ≡ Is n
-    unfolding digitsFrom
-    to-end a e = rw (← a, add-sub-cancel-left p (before 44 (drop p s))) (no-zero s p h z q ∙ inv ∙ rw (e, le-leb n 65535 m))
+  module _ (h : p < length s) (z : getD s p 0 ≡ 48 → ⊥) (q : getD s p 0 ≡ 44 → ⊥) where
+    -- a field with a byte below the digits,
+    pub scan-low : (x : ℕ) → i < length s → x ≡ getD s i 0 → (getD s i 0 ≡ 44 → ⊥) → x < 48 → scanOf s p ≡ Other
+    unfolding digitsFrom before
+    scan-low x l e o k = no-number s p (no-zero s p h z q ∙ inv ∙ rw (next s i x l e, ne-eqb x 44 (λ y. o (sym e ∙ y)), lt-leb 48 x k))
 
-    -- at a comma
-    pub number-comma : i < length s → getD s i 0 ≡ 44 → numberOf (take (i - p) (drop p s)) ≡ Is n
-    unfolding before
-    number-comma l e = to-end (found (p + before 44 (drop p s)) s i 44 b l e) (rw (next s i (getD s i 0) l refl, eq-eqb (getD s i 0) 44 e))
+    -- or above them,
+    pub scan-high : (x : ℕ) → i < length s → x ≡ getD s i 0 → (getD s i 0 ≡ 44 → ⊥) → 57 < x → scanOf s p ≡ Other
+    unfolding digitsFrom before
+    scan-high x l e o k = no-number s p (no-zero s p h z q ∙ inv ∙ rw (next s i x l e, ne-eqb x 44 (λ y. o (sym e ∙ y)), le-leb 48 x (omega arith), lt-leb x 57 k))
 
-    -- at the end of the line
-    pub number-end : length s ≤ i → numberOf (take (i - p) (drop p s)) ≡ Is n
-    unfolding before
-    number-end l = to-end (none (p + before 44 (drop p s)) s i 44 b l) (rw (drop-of-length-le s l))
+    -- or with digits of more than 65,535
+    pub scan-large : (x : ℕ) → i < length s → x ≡ getD s i 0 → (getD s i 0 ≡ 44 → ⊥) → 48 ≤ x → x ≤ 57 → 65535 < n * 10 + (x - 48) → scanOf s p ≡ Other
+    scan-large x l e o a u k = no-number s p (no-zero s p h z q ∙ digit-of x l e o a u ∙ over (part 44 (drop (i + 1) s)) (n * 10 + (x - 48)) k)
+
+    module _ (b : p + before 44 (drop p s) ≡ i + before 44 (drop i s)) (m : n ≤ 65535) where
+      -- a field that ends at i
+      to-end : p + before 44 (drop p s) ≡ i → part 44 (drop i s) ≡ [] → scanOf s p ≡ Number n i
+      unfolding scanOf digitsFrom
+      to-end a e = rw (ne-eqb (getD s p 0) 48 z, no-zero s p h z q, inv, e, le-leb n 65535 m, a)
+
+      -- at a comma
+      pub scan-comma : i < length s → getD s i 0 ≡ 44 → scanOf s p ≡ Number n i
+      unfolding before
+      scan-comma l e = to-end (found (p + before 44 (drop p s)) s i 44 b l e) (rw (next s i (getD s i 0) l refl, eq-eqb (getD s i 0) 44 e))
+
+      -- at the end of the line
+      pub scan-end : length s ≤ i → scanOf s p ≡ Number n i
+      unfolding before
+      scan-end l = to-end (none (p + before 44 (drop p s)) s i 44 b l) (rw (drop-of-length-le s l))
+
+-- no more bytes stand before the first c than there are
+before-most : (c : ℕ) (l : List ℕ) → before c l ≤ length l
+unfolding before
+before-most c [] = zero-le
+before-most c (x ∷ xs) = by (eqb x c) (before-most c xs)
+  where
+    by : (b : Bool) → before c xs ≤ length xs → cond b 0 (suc (before c xs)) ≤ suc (length xs)
+    by true h = zero-le
+    by false h = omega (arith, h)
+
+-- a field that was found to be a number: where it ends, and that it is that number
+pub scan-number : (s : List ℕ) (p n e : ℕ) → p ≤ length s → scanOf s p ≡ Number n e
+    → ((p ≤ e) × (e ≤ length s)) × (e ≡ p + before 44 (drop p s)) × (numberOf (take (e - p) (drop p s)) ≡ Is n)
+unfolding scanOf
+scan-number s p n e h = by (eqb (getD s p 0) 48) (numberOf (part 44 (drop p s))) refl
+  where
+    by : (b : Bool) (w : Num) → numberOf (part 44 (drop p s)) ≡ w → cond b Other (numbered w (p + before 44 (drop p s))) ≡ Number n e
+        → ((p ≤ e) × (e ≤ length s)) × (e ≡ p + before 44 (drop p s)) × (numberOf (take (e - p) (drop p s)) ≡ Is n)
+    by true w g q = let z : _≡_ {A = ℕ} 0 1 = cc in absurd (omega arith)
+    by false Bad g q = let z : _≡_ {A = ℕ} 0 1 = cc in absurd (omega arith)
+    by false (Is k) g q =
+        let end : e ≡ p + before 44 (drop p s) = cc in
+        let number : k ≡ n = cc in
+        let most : before 44 (drop p s) ≤ length s - p = rw (length-drop p s) at (before-most 44 (drop p s)) in
+        ((omega (arith, end), omega (arith, end, most)), end, rw (end, add-sub-cancel-left p (before 44 (drop p s))) (g ∙ rw number))
 
 -- a word, w, where it comes down to the rest from i
 module _ (w : ℕ) (s : List ℕ) (a i : ℕ) (inv : w ≡ packFrom a (drop i s)) where

@@ -1,13 +1,12 @@
 -- What a number, a field and a word of a line are, over the bytes of the line's value.
 -- Assumes nothing.
-use Prim.Native.Nat.{ℕ, zero, suc, _+_, _*_, _-_, _≤_}
+use Prim.Native.Nat.{ℕ, zero, suc, _+_, _*_, _-_}
 use Prim.Native.String.{String, len, charAt}
 use Prim.Native.Char.{code}
-use mathlib.Core.Path.{_≡_}
 use mathlib.Core.List.{List, [], _∷_}
 use mathlib.Core.Bool.{Bool, true, false, cond}
 use lib.Dec.{leb, ltb, eqb}
-use lib.ListN.{length, take, drop}
+use lib.ListN.{length, getD, take, drop}
 use Rattle.lex.specs.declared.Num.{Num}
 use Rattle.lex.specs.declared.Num.the-variants.{Is, Bad}
 use Rattle.lex.specs.declared.Field.{Field}
@@ -47,10 +46,14 @@ unfoldable pub before : ℕ → List ℕ → ℕ
 before c [] = 0
 before c (x ∷ xs) = cond (eqb x c) 0 (suc (before c xs))
 
--- the number n and the end e that a pass over the field from the place p on gives; of any other outcome nothing is said
-abbrev pub Scanned : List ℕ → ℕ → Field → Type 0
-Scanned s p (Number n e) = ((p ≤ e) × (e ≤ length s)) × (e ≡ p + before 44 (drop p s)) × (numberOf (take (e - p) (drop p s)) ≡ Is n)
-Scanned s p Other = Unit {0}
+-- a field read as a number, with the place e of its end
+abbrev pub numbered : Num → ℕ → Field
+numbered (Is n) e = Number n e
+numbered Bad e = Other
+
+-- what one pass over the field from the place p on finds: a number that does not begin with 0, and the place of its end; anything else is Other
+unfoldable pub scanOf : List ℕ → ℕ → Field
+scanOf s p = cond (eqb (getD s p 0) 48) Other (numbered (numberOf (take (before 44 (drop p s)) (drop p s))) (p + before 44 (drop p s)))
 
 -- n letters of a text from the place i on, as bytes
 abbrev pub lettersFrom : ℕ → ℕ → String → List ℕ

@@ -1,8 +1,8 @@
 // The lexical layer of a line: numbers, fields and words of a part of the input.
 ghost use mathlib.Core.Path.{_≡_};
-ghost use Prim.Native.Nat.{_+_, _<_, _≤_};
+ghost use Prim.Native.Nat.{_+_, _-_, _<_, _≤_};
 ghost use lib.ListN.{length, take, drop};
-ghost use Rattle.lex.specs.Text.{numberOf, digitsFrom, before, pack, Scanned};
+ghost use Rattle.lex.specs.Text.{numberOf, digitsFrom, before, pack, scanOf};
 
 // What a field holds, read as a number.
 pub enum Num {
@@ -60,9 +60,9 @@ pub enum Field {
     Other,
 }
 
-// The field that starts at p, where it is a number that does not begin with 0.
+// The field that starts at p, where it is a number that does not begin with 0; any other, and one behind the end, is Other.
 pub fn scan(s: &[u8], p: usize) -> Field
-    ensures { λ r. ⌜ Scanned (now (s .entry)) p r ⌝ }
+    ensures { λ r. ⌜ r ≡ scanOf (now (s .entry)) p ⌝ }
 {
     if s.len() <= p {
         return Field::Other;
@@ -73,11 +73,11 @@ pub fn scan(s: &[u8], p: usize) -> Field
     if s[p] == 44 {
         return Field::Other;
     }
-    let mut n: u32 = 0;
+    let mut x: u32 = 0;
     let mut i = p;
     while i < s.len() {
         if s[i] == 44 {
-            return Field::Number(n as u16, i);
+            return Field::Number(x as u16, i);
         }
         let d = wide(s[i]);
         if d < 48 {
@@ -86,47 +86,50 @@ pub fn scan(s: &[u8], p: usize) -> Field
         if 57 < d {
             return Field::Other;
         }
-        n = n * 10 + (d - 48);
-        if 65535 < n {
+        x = x * 10 + (d - 48);
+        if 65535 < x {
             return Field::Other;
         }
         i += 1;
     }
-    Field::Number(n as u16, i)
+    Field::Number(x as u16, i)
 }
 
-// The end of the field that starts at p: the next separator, or the end. Four bytes to a turn, then those that are left.
+// The end of the field that starts at p: the next separator, or the end; p itself where it is behind the end. Four bytes to a turn,
+// then those that are left.
 pub fn field_end(s: &[u8], p: usize, c: u8) -> usize
-    requires { ⌜ p ≤ length (now s) ⌝ }
     ensures { λ r. ⌜ r ≡ p + before c (drop p (now (s .entry))) ⌝ }
-    ensures within { λ r. ⌜ (p ≤ r) × (r ≤ length (now (s .entry))) ⌝ }
+    ensures within { λ r. ⌜ (p ≤ r) × (r - p ≤ length (now (s .entry)) - p) ⌝ }
 {
-    let mut i = p;
-    while 4 <= s.len() - i {
-        if s[i] == c {
-            return i;
-        }
-        i += 1;
-        if s[i] == c {
-            return i;
-        }
-        i += 1;
-        if s[i] == c {
-            return i;
-        }
-        i += 1;
-        if s[i] == c {
-            return i;
-        }
-        i += 1;
+    if s.len() <= p {
+        return p;
     }
-    while i < s.len() {
-        if s[i] == c {
-            return i;
+    let mut e = p;
+    while 4 <= s.len() - e {
+        if s[e] == c {
+            return e;
         }
-        i += 1;
+        e += 1;
+        if s[e] == c {
+            return e;
+        }
+        e += 1;
+        if s[e] == c {
+            return e;
+        }
+        e += 1;
+        if s[e] == c {
+            return e;
+        }
+        e += 1;
     }
-    i
+    while e < s.len() {
+        if s[e] == c {
+            return e;
+        }
+        e += 1;
+    }
+    e
 }
 
 fn wider(x: u8) -> u64

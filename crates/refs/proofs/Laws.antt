@@ -6,11 +6,11 @@ use mathlib.Core.List.{List}
 use mathlib.Core.Bool.{Bool, true, false}
 use native.Mathlib.Omega.{arith}
 use native.Mathlib.Nat.{add-assoc, zero-add}
-use borrow.Author.Tests.{eq-eqb, ne-eqb}
+use borrow.Author.Tests.{eq-eqb, ne-eqb, lt-ltb, le-ltb}
 use Rattle.forms.specs.declared.Form.{Form}
 use Rattle.forms.specs.Form.{kindAt}
 use Rattle.refs.specs.declared.Counts.{Counts}
-use Rattle.refs.specs.Refs.{types-at, tagIn, valueIn, right, levelsOf, larger, taken, Linked, unlinked, linked, refsFrom, sameValues, isSame, isRepeated}
+use Rattle.refs.specs.Refs.{types-at, tagIn, valueIn, right, levelsOf, larger, taken, Linked, unlinked, linked, refsFrom, most-fields, linksOf, sameValues, isSame, isRepeated}
 
 -- where one more is to come, that one comes first
 one-more : (m i : ℕ) → i < m → m - i ≡ suc (m - (i + 1))
@@ -19,6 +19,16 @@ one-more m i h = omega arith
 -- where i has come to m, none is left
 none-left : (m i : ℕ) → m ≤ i → m - i ≡ 0
 none-left m i h = omega arith
+
+-- too many fields for a body
+pub links-none : (n : Counts) (f : Form) (m : ℕ) (cells rows : List ℕ) → most-fields < n .fields + m → linksOf n f m cells rows ≡ unlinked rows
+unfolding linksOf
+links-none n f m cells rows h = rw (lt-ltb most-fields (n .fields + m) h)
+
+-- not too many: what is asked comes down to the fields from the first on
+pub links-all : (n : Counts) (f : Form) (m : ℕ) (cells rows : List ℕ) → n .fields + m ≤ most-fields → linksOf n f m cells rows ≡ refsFrom m n f 0 (n .fields) cells 0 rows
+unfolding linksOf
+links-all n f m cells rows h = rw (le-ltb most-fields (n .fields + m) h)
 
 -- what is asked (w) comes down to the fields from i on
 module _ (w : Linked) (m i b : ℕ) (n : Counts) (f : Form) (cells : List ℕ) (d : ℕ) (rows : List ℕ) (inv : w ≡ refsFrom (m - i) n f i (b + i) cells d rows) where
@@ -29,7 +39,7 @@ module _ (w : Linked) (m i b : ℕ) (n : Counts) (f : Form) (cells : List ℕ) (
 
   module _ (h : i < m) (k tag x : ℕ) (kq : k ≡ kindAt f i) (tq : tag ≡ tagIn cells (b + i)) (xq : x ≡ valueIn cells (b + i)) (y : Bool) (yq : y ≡ right n k tag x rows cells) where
     -- the field i breaks its rule
-    pub turn-bad : y ≡ false → w ≡ unlinked
+    pub turn-bad : y ≡ false → w ≡ unlinked rows
     unfolding refsFrom
     turn-bad q = inv ∙ rw (one-more m i h, ← kq, ← tq, ← xq, ← yq, q)
 

@@ -183,9 +183,9 @@ larger a b = cond (ltb a b) b a
 unfoldable pub taken : ℕ → ℕ → ℕ → ℕ → List ℕ → List ℕ
 taken k tag x j rows = cond (isChild k tag) (set rows ((nodes-at + x) * 5 + 4) (j + 1)) rows
 
--- a line whose references are right: the most levels of its parts, and the rows with their users
+-- the rows with the users of the fields that met their rules, and the most levels of a line's parts where each field did
 pub data Linked : Type 0 where
-  unlinked : Linked
+  unlinked : List ℕ → Linked
   linked : ℕ → List ℕ → Linked
 
 -- m fields of a line of the form f from its field i on, the first of which stands at j; d is the most levels of the fields before
@@ -194,11 +194,19 @@ refsFrom zero n f i j cells d rows = linked d rows
 refsFrom (suc m) n f i j cells d rows =
     cond (right n (kindAt f i) (tagIn cells j) (valueIn cells j) rows cells)
     (refsFrom m n f (i + 1) (j + 1) cells (larger d (levelsOf (kindAt f i) (tagIn cells j) (valueIn cells j) rows)) (taken (kindAt f i) (tagIn cells j) (valueIn cells j) j rows))
-    unlinked
+    (unlinked rows)
+
+-- the most fields that a body can have: the number of a field, plus 1, is at most 65,535
+abbrev pub most-fields : ℕ
+most-fields = 65535
+
+-- m fields behind those of the lines before, as those of a line of the form f; where that would be too many for a body, none is linked
+unfoldable pub linksOf : Counts → Form → ℕ → List ℕ → List ℕ → Linked
+linksOf n f m cells rows = cond (ltb most-fields (n .fields + m)) (unlinked rows) (refsFrom m n f 0 (n .fields) cells 0 rows)
 
 abbrev pub linking : Refs → List ℕ → Linked
 linking (found.Levels d) rows = linked d rows
-linking found.Bad rows = unlinked
+linking found.Bad rows = unlinked rows
 
 -- m values from a on are those from b on
 unfoldable pub sameValues : ℕ → ℕ → ℕ → List ℕ → Bool

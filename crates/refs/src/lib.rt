@@ -5,7 +5,7 @@ use forms::Form;
 ghost use mathlib.Core.Path.{_≡_};
 ghost use Prim.Native.Nat.{_+_, _*_, _≤_, _<_};
 ghost use lib.ListN.{getD, set};
-ghost use Rattle.refs.specs.Refs.{types-at, formIn, firstIn, countIn, levelsIn, userIn, nameIn, tagIn, valueIn, refersTo, isChild, isType, isExpr, isTyped, isLast, isFree, isLocal, isRes, levelsOf, taken, refsFrom, linking, sameValues, isSame, isRepeated};
+ghost use Rattle.refs.specs.Refs.{types-at, formIn, firstIn, countIn, levelsIn, userIn, nameIn, tagIn, valueIn, refersTo, isChild, isType, isExpr, isTyped, isLast, isFree, isLocal, isRes, levelsOf, taken, linksOf, linking, sameValues, isSame, isRepeated};
 
 // How many rows of each key there are, and how many fields.
 pub struct Counts {
@@ -40,6 +40,9 @@ pub const FN_AT: u32 = 1920;
 pub const FIXED_TYPES: u16 = 14;
 
 const DIVERGES: u16 = 13;
+
+// The most fields that a body can have: a row has the number of a field plus 1.
+const MOST_FIELDS: u32 = 65535;
 
 // What a field's number refers to.
 const NO_ROW: u8 = 0;
@@ -312,12 +315,15 @@ fn take_child(k: u8, tag: u16, x: u16, j: u16, rows: &mut [u16])
     }
 }
 
-// The m fields behind those of the lines before meet the rules of their kinds in the form f; they use their children from now on.
+// The m fields behind those of the lines before meet the rules of their kinds in the form f; those that do use their children from now
+// on, up to the first that does not. Where there would be too many for a body, none does.
 pub fn link_fields(n: Counts, f: Form, m: u16, cells: &[u16], rows: &mut [u16]) -> Refs
-    requires { ⌜ n .fields + m ≤ 65535 ⌝ }
-    ensures { λ r. ⌜ linking r (now (rows .exit)) ≡ refsFrom m n f 0 (n .fields) (now (cells .entry)) 0 (now (rows .entry)) ⌝ }
+    ensures { λ r. ⌜ linking r (now (rows .exit)) ≡ linksOf n f m (now (cells .entry)) (now (rows .entry)) ⌝ }
 {
     let b = n.fields;
+    if MOST_FIELDS < b as u32 + m as u32 {
+        return Refs::Bad;
+    }
     let mut d = 0;
     let mut i = 0;
     while i < m {

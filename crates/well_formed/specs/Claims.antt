@@ -1,7 +1,7 @@
 -- What the reader claims, one citation each: first of `read_body`, then of well-formed tables. Each assumption is an argument of the statement.
 -- The contract of `read_body` in crate `body` cites the definition bodyOf there. The claims are stated with `WellFormed` of Good, `ZeroBehind` of Zeros,
 -- `ChildAt` of UsedOnce, `weight` and `sumTo` of Weight, `TypeIn`, `Contains`, `Parent`, `Chain` and `funs` of Levels, `behindFile` and `Leaves`
--- of Behind, and `TooDeep` of TooDeep.
+-- of Behind, `firstLines` and `Forward` of FirstLines, `TooDeep` of TooDeep, and `numbers` of FormNumbers.
 use Prim.Native.Nat.{ℕ, _+_, _<_, _≤_}
 use mathlib.Core.Path.{_≡_}
 use mathlib.Core.Logic.{_⊎_, _↔_}
@@ -17,7 +17,7 @@ use Rattle.refs.specs.declared.Counts.{Counts}
 use Rattle.refs.specs.Refs.{nodes-at, fn-at, formIn, firstIn, countIn, levelsIn, valueIn}
 use Rattle.body.specs.declared.Answer.{Answer}
 use Rattle.body.specs.declared.Answer.the-variants as answer
-use Rattle.body.specs.Body.{most-bytes, rows-length, cells-length, answerNumber, answerPlace, Held, held, zeros, bodyOf}
+use Rattle.body.specs.Body.{most-bytes, rows-length, cells-length, faultNumber, answerNumber, answerPlace, Held, held, zeros, bodyOf}
 use Rattle.well_formed.specs.Good.{WellFormed}
 use Rattle.well_formed.specs.Zeros.{ZeroBehind}
 use Rattle.well_formed.specs.WellFormed as body
@@ -33,6 +33,10 @@ use Rattle.well_formed.specs.Behind.{behindFile, Leaves}
 use Rattle.well_formed.specs.Behind as tables
 use Rattle.well_formed.specs.TooDeep.{TooDeep}
 use Rattle.well_formed.specs.TooDeep as deep
+use Rattle.well_formed.specs.FirstLines.{firstLines, Forward}
+use Rattle.well_formed.specs.FirstLines as lines
+use Rattle.well_formed.specs.FormNumbers.{numbers, allRight}
+use Rattle.well_formed.specs.FormNumbers as named
 
 module _ (s rows cells : List ℕ) where
   -- the answer to the file s, and what is then in the two tables lent for it
@@ -74,6 +78,12 @@ module _ (s rows cells : List ℕ) where
   pub zero-on-3-to-6 : (x : Fault) (l : ℕ) → result .answer ≡ answer.Refused x l → (result .rows ≡ zeros rows) × (result .cells ≡ zeros cells)
   zero-on-3-to-6 = answers.refused-zero s rows cells
 
+  -- 3, 4 or 5 at the line l, but for that of a forward reference, depends on the first l lines alone: every file with the same first l lines, each with its
+  -- line feed, is refused alike. Of a file with fewer line feeds, as where the last one or `fn` is missing, they are the whole file
+  pub first-lines-decide : (t : List ℕ) (x : Fault) (l : ℕ) → result .answer ≡ answer.Refused x l → faultNumber x ≤ 5 → (Forward x l (behindFile s rows cells) → ⊥)
+      → length t ≤ most-bytes → firstLines l t ≡ firstLines l s → bodyOf t rows cells .answer ≡ answer.Refused x l
+  first-lines-decide t = lines.first-lines s t rows cells
+
   -- 6 only if no line is faulty and, in the tables behind the last line, before they are cleared, there are 65 nodes, each a child of the one before, or
   -- types, each in the one before, of which 5 are a fun
   pub only-when-6 : (l : ℕ) → result .answer ≡ answer.Refused fault.Levels l → TooDeep (behindFile s rows cells)
@@ -103,6 +113,10 @@ form-fits = words.form-fits
 -- no two forms fit one key and one word
 pub one-form : (k : ℕ) (w : List ℕ) (i j : ℕ) → i < 30 → j < 30 → fits k w (getD forms i no-form) ≡ true → fits k w (getD forms j no-form) ≡ true → i ≡ j
 one-form = words.words-apart
+
+-- the numbers of the forms, by which rows and rules name them, stand for the keys and words that `numbers` writes beside them, and each form has one there
+pub form-numbers : (allRight numbers ≡ true) × (length numbers ≡ length forms)
+form-numbers = named.numbers-right
 
 module _ (n : Counts) (rows cells : List ℕ) (w : WellFormed n rows cells) where
   -- ── 6. nodes, in well-formed tables ──

@@ -18,4 +18,6 @@ pub mod Levels
 pub mod Distinct
 pub mod Behind
 pub mod TooDeep
+pub mod FormNumbers
+pub mod FirstLines
 pub mod Claims

@@ -308,9 +308,9 @@ one-more m n f i j cells d rows e rows′ room w h rest =
     }
 
 -- a line that is linked passed its test
-step : (c : Bool) (l : Linked) (e : ℕ) (rows′ : List ℕ) → cond c l unlinked ≡ linked e rows′ → (c ≡ true) × (l ≡ linked e rows′)
-step true l e rows′ h = (refl, h)
-step false l e rows′ h = let z : _≡_ {A = ℕ} 0 1 = cc in absurd (omega arith)
+step : (c : Bool) (l : Linked) (rows : List ℕ) (e : ℕ) (rows′ : List ℕ) → cond c l (unlinked rows) ≡ linked e rows′ → (c ≡ true) × (l ≡ linked e rows′)
+step true l rows e rows′ h = (refl, h)
+step false l rows e rows′ h = let z : _≡_ {A = ℕ} 0 1 = cc in absurd (omega arith)
 
 -- a line whose references are right is good
 pub linked-good : (m : ℕ) (n : Counts) (f : Form) (i j : ℕ) (cells : List ℕ) (d : ℕ) (rows : List ℕ) (e : ℕ) (rows′ : List ℕ)
@@ -328,6 +328,6 @@ linked-good (suc m) n f i j cells d rows e rows′ room w h =
     let tag = tagIn cells j in
     let x = valueIn cells j in
     let P : ℕ → ℕ → Type 0 = λ p q. writtenAs (kindAt f p / 16) (tagIn cells q) (valueIn cells q) ≡ true in
-    let s = step (right n k tag x rows cells) _ e rows′ h in
+    let s = step (right n k tag x rows cells) _ rows e rows′ h in
     one-more m n f i j cells d rows e rows′ room (first-field P m i j w) (s .0)
     (linked-good m n f (i + 1) (j + 1) cells _ _ e rows′ (rw taken-length room) (later-fields P m i j w) (s .1))

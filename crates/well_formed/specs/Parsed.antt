@@ -194,7 +194,7 @@ record CellsGood (f : Form) (i : ℕ) (ss : List (List ℕ)) (l : List Cell) : T
 
 -- the cells of the fields ss are good, where there are any
 abbrev IfCells : Form → ℕ → List (List ℕ) → Cells → Type 0
-IfCells f i ss refused = Unit {0}
+IfCells f i ss (refused l) = Unit {0}
 IfCells f i ss (cells l) = CellsGood f i ss l
 
 -- the cells of no fields are good
@@ -217,7 +217,7 @@ prepend-good : (f : Form) (i : ℕ) (s : List ℕ) (ss : List (List ℕ)) (r : R
     → IfCells f (i + 1) ss q → IfCells f i (s ∷ ss) (prepend r q)
 unfolding Writes
 prepend-good f i s ss Bad q e w g = tt
-prepend-good f i s ss (Is x) refused e w g = tt
+prepend-good f i s ss (Is x) (refused l) e w g = tt
 prepend-good f i s ss (Is x) (cells l) e w g = cell-good f i s ss x l w (read-filled (kindAt f i / 16) s x e) g
 
 -- the cells that are read are good
@@ -253,14 +253,14 @@ form-key k v h = index-key k (take (before 44 v) v) forms h
 
 -- a line's value is good, where it is no fault, and no fault of a value is that of levels
 abbrev IfParsed : ℕ → List ℕ → Parsed → Type 0
-IfParsed k v (wrong x) = faultNumber x < 6
+IfParsed k v (wrong x l) = faultNumber x < 6
 IfParsed k v (parsed f l) = ParsedGood k v f l
 
 -- a value of the form f whose cells are good is good, where it has as many as the form
 counted-good : (k : ℕ) (v : List ℕ) (f p : ℕ) (r : Cells) → f < 30 → getD forms f no-form .key ≡ k → IfCells (formAt f) 0 (fieldsFrom p v) r
     → IfParsed k v (counted f (formAt f) r)
 unfolding countOf
-counted-good k v f p refused h e g = omega arith
+counted-good k v f p (refused l) h e g = omega arith
 counted-good k v f p (cells l) h e g =
     by-test (λ (x : Line). IfParsed k v (withCells x l)) (ltb (length l) (formAt f .4)) _ _ (λ a. omega arith)
     (λ a. by-test (λ (x : Line). IfParsed k v (withCells x l)) (ltb (formAt f .5) (length l)) _ _ (λ b. omega arith)
@@ -288,5 +288,5 @@ pub parsed-good : (k : ℕ) (v : List ℕ) (f : ℕ) (l : List Cell) → parseLi
 parsed-good k v f l e = subst (IfParsed k v) e (parse-good k v)
 
 -- the fault of a value that was not is not that of levels
-pub parsed-fault : (k : ℕ) (v : List ℕ) (x : Fault) → parseLine k v ≡ wrong x → faultNumber x < 6
-parsed-fault k v x e = subst (IfParsed k v) e (parse-good k v)
+pub parsed-fault : (k : ℕ) (v : List ℕ) (x : Fault) (l : List Cell) → parseLine k v ≡ wrong x l → faultNumber x < 6
+parsed-fault k v x l e = subst (IfParsed k v) e (parse-good k v)

@@ -398,7 +398,7 @@ judged-good st k f v l cells rows b reading hk later good wide fits =
         → GoodStep b (cond c (cond d (bad fault.Reference) (placed st k f (length l) stored r)) (bad fault.Limit))
     by false p d u r q = omega arith
     by true p true u r q = omega arith
-    by true p false u unlinked q = omega arith
+    by true p false u (unlinked r) q = omega arith
     by true p false u (linked e rows′) q = (
       placed-reading st k f v l cells rows e rows′ reading hk later (ltb-true (countOf (st .counts) k) (limitOf k) p) good u
           (linked-good (length l) (st .counts) (formAt f) 0 (st .counts .fields) stored 0 rows e rows′ (nodes-inside st cells rows reading) written q),
@@ -408,7 +408,7 @@ judged-good st k f v l cells rows b reading hk later good wide fits =
 -- a line whose key and value are known
 valued-good : (st : State) (k : ℕ) (v : List ℕ) (cells rows : List ℕ) (a b : ℕ) (p : Parsed) → parseLine k v ≡ p → Reading st cells rows → k < 6 → st .key ≤ k
     → Enough a (st .counts .fields) → a + (letters k + length v + 2) ≤ b → b ≤ most-bytes → GoodStep b (valued st k (lay p cells (st .counts .fields)) rows)
-valued-good st k v cells rows a b (wrong x) q reading hk later had fits most = parsed-fault k v x q
+valued-good st k v cells rows a b (wrong x l) q reading hk later had fits most = parsed-fault k v x l q
 valued-good st k v cells rows a b (parsed f l) q reading hk later had fits most =
     let good : ParsedGood k v f l = parsed-good k v f l q in
     let all : Enough b (st .counts .fields + length l) = omega (arith, line-enough k f v l good) in

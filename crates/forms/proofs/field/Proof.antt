@@ -12,7 +12,7 @@ field-spec =
     (λ c.
     let n = c .before .before in
     let s = n .before .before in
-    scanned _ _ _ _ _ _ _ (s .before .before .if1 .taken) (s .before .if2 .taken) (s .scan .ensures) (n .n .given .1) (c .nameless .ensures))
+    scanned _ _ _ _ _ _ _ (search needs) (s .before .before .if1 .taken) (s .before .if2 .taken) (s .scan .ensures) (n .n .given .1) (c .nameless .ensures))
     (λ c. search needs)
     (λ c κs. search needs)
     (λ c. search needs)

@@ -1,5 +1,5 @@
 use Prim.Native.Nat.{_≤_, _-_, _+_}
-use mathlib.Core.Path.{_≡_, sym}
+use mathlib.Core.Path.{_≡_, refl, sym}
 use borrow.Author.Needs.{needs}
 use lib.ListN.{length, drop}
 use Rattle.lex.specs.Text.{before}
@@ -26,6 +26,7 @@ field-end-spec =
     μ-loop
     Inv-loop2
     μ-loop2
+    (λ c. (sym (none _ _ _ _ refl (c .if1 .taken)), search needs))
     (λ c. search needs)
     (λ c. search needs)
     (λ c. search needs)

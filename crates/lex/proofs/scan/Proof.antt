@@ -3,7 +3,7 @@ use mathlib.Core.Path.{_≡_, sym}
 use borrow.Author.Needs.{needs}
 use lib.ListN.{length, drop}
 use Rattle.lex.specs.Text.{digitsFrom, before}
-use Rattle.lex.proofs.Laws.{part, found, passed, none, digit-of, number-comma, number-end}
+use Rattle.lex.proofs.Laws.{part, passed, digit-of, scan-past, scan-zero, scan-empty, scan-low, scan-high, scan-large, scan-comma, scan-end}
 use Rattle.lex.proofs.scan.Statement.{statement}
 use Rattle.lex.proofs.scan.Tie as tie
 
@@ -18,24 +18,24 @@ scan-spec =
     tie.close (tie.spec
     Inv-loop
     μ-loop
-    (λ c. tt)
+    (λ c. sym (search scan-past))
     (λ c. search needs)
-    (λ c. tt)
+    (λ c. sym (search scan-zero))
     (λ c. search needs)
-    (λ c. tt)
+    (λ c. sym (search scan-empty))
     (λ c. search needs)
     (λ c. search needs)
     (λ c. search needs)
-    (λ c. (search needs, sym (search found), search number-comma))
+    (λ c. sym (search scan-comma))
     (λ c. search needs)
     (λ c κs. search needs)
-    (λ c. tt)
-    (λ c. tt)
+    (λ c. sym (search scan-low))
+    (λ c. sym (search scan-high))
     (λ c. search needs)
     (λ c. search needs)
-    (λ c. tt)
+    (λ c. sym (search scan-large))
     (λ c. search needs)
     (λ c. search needs)
     (λ c. (search needs, search needs, search needs, search passed, search digit-of))
     (λ c. search needs)
-    (λ c. (search needs, sym (search none), search number-end)))
+    (λ c. sym (search scan-end)))
