@@ -23,7 +23,7 @@ use Rattle.type_table.specs.declared.Origin.the-variants.{Node, Literal}
 use Rattle.type_table.specs.declared.Bound.{Bound}
 use Rattle.type_table.specs.declared.Bound.the-variants.{To, Open}
 use Rattle.type_table.specs.Memory.{pick, varCell, headAt, numberAt, inputsFrom, widthOf, shapeOf, shapeAt, rowsOf, kindOf, kindAt, kindsOf, numbered, originAt, originsOf, bindingAt, bindsOf}
-use Rattle.type_table.specs.View.{type, variable, kindCode, kindIn, originCode, originIn, boundCode, boundIn, widthCode, viewOf, viewIn, onwardIn, endBy, endFrom, endIn}
+use Rattle.type_table.specs.View.{type, variable, kindCode, kindIn, originCode, originIn, boundCode, boundIn, widthCode, viewOf, viewIn, onwardIn, endBy, endOr, endFrom, endIn}
 use Rattle.type_table.specs.Made.{kindNumber}
 use Rattle.type_table.specs.Tables.{row-at, kind-at, origin-at, bound-at, length-rows}
 use Rattle.type_table.specs.Sound.{Sound}
@@ -159,7 +159,26 @@ module _ (m : List ℕ) (c : Counts) where
       by ih Open e k = e
       by ih (To y) e k = ih (y .0) (omega arith)
 
+  -- where the rank falls along the bindings, the end depends neither on the row out of steps nor on the steps, if they are more than the rank
+  end-same : (rank : ℕ → ℕ) → ((x : ℕ) → All (λ (y : ℕ). rank y < rank x) (next (rowsOf m (c .types)) (bindsOf m (c .vars)) x))
+      → (d k e n x : ℕ) → rank x < k → rank x < n → endOr m c d k x ≡ endOr m c e n x
+  end-same rank falls d zero e n x h g = absurd (omega arith)
+  end-same rank falls d (suc k) e zero x h g = absurd (omega arith)
+  end-same rank falls d (suc k) e (suc n) x h g = by (λ y q r. end-same rank falls d k e n y q r) (onwardIn m c (type x)) (onward-next (λ (y : ℕ). rank y < rank x) x (falls x))
+    where
+      by : ((y : ℕ) → rank y < k → rank y < n → endOr m c d k y ≡ endOr m c e n y) → (r : Bound) → Onward (λ (y : ℕ). rank y < rank x) r → endBy (endOr m c d k) x r ≡ endBy (endOr m c e n) x r
+      by ih Open q = refl
+      by ih (To y) q = ih (y .0) (omega arith) (omega arith)
+
 -- the row that `follow` answers is bound to nothing
 pub follow-open : {m : List ℕ} {c : Counts} → Sound m c → (x : ℕ) → onwardIn m c (type (endIn m c x)) ≡ Open
 unfolding endIn
 follow-open {m} {c} sound x = end-open m c (sound .good .rank) (sound .good .falls) (c .types + 1) x (omega (arith, sound .good .top x, length-rows m (c .types)))
+
+-- and the steps never run out: whatever row stands for that, and with any more steps, it answers the same
+pub follow-same : {m : List ℕ} {c : Counts} → Sound m c → (x d k : ℕ) → c .types < k → endOr m c d k x ≡ endIn m c x
+unfolding endIn
+follow-same {m} {c} sound x d k h =
+    let g = sound .good .top x in
+    let l = length-rows m (c .types) in
+    end-same m c (sound .good .rank) (sound .good .falls) d k 12 (c .types + 1) x (omega arith) (omega arith)
