@@ -10,6 +10,7 @@ use lib.Dec.{eqb}
 use borrow.Author.Tests.{eqb-true, ne-eqb}
 use Rattle.theory.specs.Rules.{Width as Width·T, w8, w16, w32, w64, bool, nil, float, double, uint, int, inst, Shape, base, var, arr, ref, fn, fun, lam, err, div, row, kind, bound, optList, next}
 use Rattle.theory.specs.Basics.{All}
+use Rattle.theory.specs.Graph.{alike}
 use Rattle.type_table.specs.declared.Counts.{Counts}
 use Rattle.type_table.specs.declared.TypeId.{TypeId}
 use Rattle.type_table.specs.declared.VarId.{VarId}
@@ -159,16 +160,13 @@ module _ (m : List ℕ) (c : Counts) where
       by ih Open e k = e
       by ih (To y) e k = ih (y .0) (omega arith)
 
-  -- where the rank falls along the bindings, the end depends neither on the row out of steps nor on the steps, if they are more than the rank
-  end-same : (rank : ℕ → ℕ) → ((x : ℕ) → All (λ (y : ℕ). rank y < rank x) (next (rowsOf m (c .types)) (bindsOf m (c .vars)) x))
-      → (d k e n x : ℕ) → rank x < k → rank x < n → endOr m c d k x ≡ endOr m c e n x
-  end-same rank falls d zero e n x h g = absurd (omega arith)
-  end-same rank falls d (suc k) e zero x h g = absurd (omega arith)
-  end-same rank falls d (suc k) e (suc n) x h g = by (λ y q r. end-same rank falls d k e n y q r) (onwardIn m c (type x)) (onward-next (λ (y : ℕ). rank y < rank x) x (falls x))
+  -- the end of a row's bindings asks of the row that it is bound to alone
+  end-local : (f g : ℕ → ℕ) (x : ℕ) → All (λ (y : ℕ). f y ≡ g y) (next (rowsOf m (c .types)) (bindsOf m (c .vars)) x) → endBy f x (onwardIn m c (type x)) ≡ endBy g x (onwardIn m c (type x))
+  end-local f g x h = by (onwardIn m c (type x)) (onward-next (λ (y : ℕ). f y ≡ g y) x h)
     where
-      by : ((y : ℕ) → rank y < k → rank y < n → endOr m c d k y ≡ endOr m c e n y) → (r : Bound) → Onward (λ (y : ℕ). rank y < rank x) r → endBy (endOr m c d k) x r ≡ endBy (endOr m c e n) x r
-      by ih Open q = refl
-      by ih (To y) q = ih (y .0) (omega arith) (omega arith)
+      by : (r : Bound) → Onward (λ (y : ℕ). f y ≡ g y) r → endBy f x r ≡ endBy g x r
+      by Open k = refl
+      by (To y) k = k
 
 -- the row that `follow` answers is bound to nothing
 pub follow-open : {m : List ℕ} {c : Counts} → Sound m c → (x : ℕ) → onwardIn m c (type (endIn m c x)) ≡ Open
@@ -179,6 +177,6 @@ follow-open {m} {c} sound x = end-open m c (sound .good .rank) (sound .good .fal
 pub follow-same : {m : List ℕ} {c : Counts} → Sound m c → (x d k : ℕ) → c .types < k → endOr m c d k x ≡ endIn m c x
 unfolding endIn
 follow-same {m} {c} sound x d k h =
-    let g = sound .good .top x in
     let l = length-rows m (c .types) in
-    end-same m c (sound .good .rank) (sound .good .falls) d k 12 (c .types + 1) x (omega arith) (omega arith)
+    let t = sound .good .top x in
+    alike (λ (f : ℕ → ℕ) (y : ℕ). endBy f y (onwardIn m c (type y))) (next (rowsOf m (c .types)) (bindsOf m (c .vars))) (sound .good .rank) (sound .good .falls) (end-local m c) d 12 k (c .types + 1) x (omega arith) (omega arith)
