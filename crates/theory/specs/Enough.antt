@@ -1,5 +1,5 @@
 -- More steps change nothing: of an equation that ended, and of the searches for a variable over sound bindings. Assumes what each statement says.
-use mathlib.Core.Path.{_≡_, refl, _∙_, ap, sym}
+use mathlib.Core.Path.{_≡_, refl}
 use mathlib.Core.List.{List, [], _∷_}
 use mathlib.Core.Option.{Option, none, some}
 use mathlib.Core.Bool.{Bool, true, false, cond, not, _&&_}
@@ -7,7 +7,7 @@ use Prim.Native.Nat.{ℕ, suc, zero, _≤_, _<_}
 use native.Mathlib.Omega.{arith}
 use lib.ListN.{length}
 use lib.Dec.{eqb}
-use Rattle.theory.specs.Rules.{Shape, Kind, Out, success, mismatch, refused12, refused13, dry, Mem, Pair, Res, Act, go, at, row, kind, fits, bound, asVar, isSame, marked, signed, pass, onward, chase, heed, other, suits, each, perform, move, unify, Found, ring, inside, free, follow, seekVar, seek, leads, far}
+use Rattle.theory.specs.Rules.{Shape, Kind, Out, success, mismatch, refused12, refused13, dry, Mem, Pair, Res, Act, go, at, row, kind, fits, bound, asVar, isSame, marked, signed, pass, onward, chase, heed, other, suits, each, perform, move, unify, ring, follow, seekVar, seek, leads, far}
 use Rattle.theory.specs.Program.{fuel, solve}
 use Rattle.theory.specs.Graph.{Good, Sure, seek-sure, leads-more}
 use Rattle.theory.specs.Keep.{Ended, solve-kept}
