@@ -1,6 +1,6 @@
 -- What is claimed of the walk over a well-formed body, one citation each: the limits of document 01 are never exceeded, its levels never run out, each type
 -- line has its number, functions stand at most 4 deep in one another, all types and variables are known, each number refers to what is there; then the promise of
--- `type_body`, what its answer says of the refusal, which number and place that has, at which nodes equations are raised, and demand 3 for the equations of the body.
+-- `type_body`, what its answer says of the refusal, which number and place that has, at which nodes equations are raised, which of them was refused, which errors are theirs, that they ended, and demand 3 for them.
 -- The body is what `type-body` of crate `resolve` says, over the tables that `read_body` leaves on 0 (`WellFormed` of crate `well_formed`), from the
 -- fixed types and no node typed; `Fits` of crate `record` says that no table of a state is over its limit.
 use mathlib.Core.Path.{_≡_, refl}
@@ -12,7 +12,7 @@ use Prim.Native.Nat.{ℕ, _+_, _*_, _<_, _≤_}
 use native.Mathlib.Omega.{arith}
 use borrow.Author.Tests.{lt-ltb}
 use lib.ListN.{length, drop}
-use Rattle.theory.specs.Rules.{inst, base, fn, Mem, row, unify}
+use Rattle.theory.specs.Rules.{inst, base, fn, refused12, refused13, Mem, row, unify}
 use Rattle.theory.specs.Program.{Equation, done, intern, run}
 use Rattle.theory.specs.Basics.{All}
 use Rattle.theory.specs.Ways.{Way, Kinded, Agrees, Sided, Meets, Went, Failed}
@@ -40,6 +40,10 @@ use Rattle.bounds.specs.Made as made
 use Rattle.bounds.specs.Answered.{answered, unanswered}
 use Rattle.bounds.specs.Refusals.{body-placed}
 use Rattle.bounds.specs.Raised.{body-raised}
+use Rattle.bounds.specs.Newest.{Unrefused, NewestIs, body-12, body-13, body-unrefused, body-own-refusal}
+use Rattle.bounds.specs.Causes.{Pairwise, Caused, body-caused}
+use Rattle.bounds.specs.Ended.{raisedIn, EndedIn, body-ended}
+use Rattle.bounds.specs.Instances.{WayOf, body-way}
 use Rattle.bounds.specs.Refers.{Refers, refers}
 use Rattle.bounds.specs.InRows.{InRows, declared-state, body-in-rows}
 use Rattle.bounds.specs.Demand.{end, without-error, first-failure}
@@ -228,12 +232,40 @@ module _ (n : Counts) (rows cells : List ℕ) where
   pub equations-at-nodes : WellFormed n rows cells → All (λ (q : Equation). q .node < n .nodes) (end n rows cells .log)
   equations-at-nodes w = body-raised n rows cells w _
 
+  -- 12 is the refusal of the newest equation, raised by the rule of the node of the refusal; none before it was refused
+  pub refused-12 : WellFormed n rows cells → (p : ℕ) → end n rows cells .stop ≡ some (12, p) → NewestIs refused12 p (end n rows cells .log)
+  refused-12 w = body-12 n rows cells w _
+
+  -- and so is 13
+  pub refused-13 : WellFormed n rows cells → (p : ℕ) → end n rows cells .stop ≡ some (13, p) → NewestIs refused13 p (end n rows cells .log)
+  refused-13 w = body-13 n rows cells w _
+
+  -- without a refusal, and with 10 or 11, no equation was refused
+  pub not-refused : WellFormed n rows cells → end n rows cells .stop ≡ none → All Unrefused (end n rows cells .log)
+  not-refused w = body-unrefused n rows cells w _
+
+  pub not-refused-by-10-and-11 : WellFormed n rows cells → (k p : ℕ) → end n rows cells .stop ≡ some (k, p) → k ≤ 11 → All Unrefused (end n rows cells .log)
+  not-refused-by-10-and-11 w = body-own-refusal n rows cells w _
+
+  -- the errors with CAUSE 1 are, in order, those of the equations that failed
+  pub errors-of-equations : WellFormed n rows cells → Caused (end n rows cells .errs) (end n rows cells .log)
+  errors-of-equations = body-caused n rows cells
+
+  -- each equation ended in the state in which it was raised: its steps never ran out
+  pub equations-ended : Pairwise EndedIn (end n rows cells .log) (raisedIn (type-body n rows cells) (first-state rows cells) [])
+  equations-ended = body-ended n rows cells _
+
   -- answered 0 without an error, the sides plain or Diverges got: a way meets all the equations of the body exactly when it agrees with the bindings in which its walk ends,
   -- and at least one such way exists
   pub demand-3-without-error : end n rows cells .errs ≡ [] → end n rows cells .stop ≡ none → All (Sided (end n rows cells .rows)) (end n rows cells .log)
       → ((v : Way) → Kinded (end n rows cells .kinds) v → All (Meets (end n rows cells .rows) v) (end n rows cells .log) ↔ Agrees (end n rows cells .rows) (end n rows cells .mem .binds) v)
       × ((v : Way) × Kinded (end n rows cells .kinds) v × All (Meets (end n rows cells .rows) v) (end n rows cells .log))
   demand-3-without-error = without-error n rows cells
+
+  -- where a way meets them, one does that gives only types of the instances of the file
+  pub own-instances : WellFormed n rows cells → let s = end n rows cells in
+      (v : Way) → Kinded (s .kinds) v → All (Meets (s .rows) v) (s .log) → (u : Way) × WayOf (n .insts) u × Kinded (s .kinds) u × All (Meets (s .rows) u) (s .log)
+  own-instances = body-way n rows cells
 
   -- whatever the answer: no way meets the equations up to and including the first that failed or was refused 12
   pub demand-3-first-failure : (later before : List Equation) (q : Equation) → end n rows cells .log ≡ later ++ q ∷ before → Failed (q .answer) → All Went before → All (Sided (end n rows cells .rows)) (q ∷ before)

@@ -1,5 +1,5 @@
--- The programs of the rules, whatever numbers are types: they make types of such types, each of one of six forms, raise equations of such types, and
--- refuse with 10 to 13 at a node of the file. The steps and the rules that type no other node are such programs. Assumes nothing.
+-- The programs of the rules, whatever numbers are types: they make types of such types, each of one of six forms, raise equations of such types, whose errors name
+-- their sides, and refuse with 10 to 13 at a node of the file. The steps and the rules that type no other node are such programs. Assumes nothing.
 use mathlib.Core.Path.{_≡_, refl}
 use mathlib.Core.List.{List, [], _∷_, map}
 use mathlib.Core.Option.{Option, none, some}
@@ -9,7 +9,7 @@ use native.Mathlib.Omega.{arith}
 use borrow.Author.Tests.{ltb-true}
 use lib.Dec.{eqb, ltb, leb}
 use lib.ListN.{length, getD, set}
-use Rattle.theory.specs.Rules.{Base, bool, nil, float, double, uint, int, inst, Shape, base, var, arr, ref, fn, fun, lam, err, div, Kind, regular, asVar, head, error-head, row, bound}
+use Rattle.theory.specs.Rules.{Base, bool, nil, float, double, uint, int, inst, Shape, base, var, arr, ref, fn, fun, lam, err, div, Kind, regular, mismatch, asVar, head, error-head, row, bound}
 use Rattle.theory.specs.Program.{done, refuse, draw, intern, equate, emit, mark, read, write, _>>=_}
 use Rattle.theory.specs.Basics.{All}
 use Rattle.refs.specs.declared.Counts.{Counts}
@@ -28,6 +28,8 @@ use Rattle.nodes.specs.declared.Callee.{Callee}
 use Rattle.nodes.specs.declared.Callee.the-variants as callee
 use Rattle.nodes.specs.Nodes.{Body, item, declaredAt, itemsOf, outputOf, defInputs, shapeInputs, inputsOf, nth, fieldType, asArr, method, isPartlyFailed, segmentName, segmentRes}
 use Rattle.record.specs.declared.Extra.{Extra}
+use Rattle.record.specs.declared.ErrorKind.{ErrorKind}
+use Rattle.record.specs.declared.ErrorKind.the-variants as error·K
 use Rattle.record.specs.declared.TypingError.{TypingError}
 use Rattle.record.specs.declared.Span.{Span}
 use Rattle.record.specs.Own.{Own, typed, marked, resolved}
@@ -107,16 +109,22 @@ pub record Placed (m k p : ℕ) : Type 0 where
   pub most : k ≤ 13
   pub lower : p < m
 
+-- the error of an equation that failed: its CAUSE is 1, and it names the sides x, expected, and y, got
+pub record Names (x y : ℕ) (e : TypingError) : Type 0 where
+  pub cause : e .cause ≡ 1
+  pub expected : e .a ≡ x
+  pub got : e .b ≡ y
+
 module _ (N : Counts) (W : Numbers) {A : Type 0} (Q : A → Type 0) where
   -- from states of such types a program makes types of such types, of the forms of `isMade` but no variables, raises equations of such types, refuses as above,
-  -- and answers what Q holds of
+  -- by itself with 10 and 11 alone, emits errors as `Names` says and by itself with CAUSE 0 alone, and answers what Q holds of
   unfoldable pub IsConfined : Walk A → Type 0
   IsConfined (done a) = Q a
-  IsConfined (refuse k n) = Placed (N .nodes) k n
+  IsConfined (refuse k n) = Placed (N .nodes) k n × (k ≤ 11)
   IsConfined (draw k o f) = (r : ℕ) → W .type r → IsConfined (f r)
   IsConfined (intern t f) = (isMade t ≡ true) × (asVar t ≡ none) × Parts W t × ((r : ℕ) → W .type r → IsConfined (f r))
-  IsConfined (equate n x y e f) = Placed (N .nodes) 12 n × Placed (N .nodes) 13 n × W .type x × W .type y × ((c : Bool) → IsConfined (f c))
-  IsConfined (emit e p) = IsConfined p
+  IsConfined (equate n x y e f) = Placed (N .nodes) 12 n × Placed (N .nodes) 13 n × W .type x × W .type y × ((c : Bool) → IsConfined (f c)) × Names x y (e mismatch)
+  IsConfined (emit e p) = IsConfined p × (e .cause ≡ 0)
   IsConfined (mark v p) = IsConfined p
   IsConfined (read f) = (s : State) → StateTypes W s → IsConfined (f s)
   IsConfined (write o p) = OwnTypes (W .type) o × IsConfined p
@@ -137,8 +145,8 @@ module _ {A B : Type 0} where
   bind-confined N W Q R (refuse k n) g P K = P
   bind-confined N W Q R (draw k o f) g P K = λ r v. bind-confined N W Q R (f r) g (P r v) K
   bind-confined N W Q R (intern t f) g P K = (P .0, P .1, P .2, λ r v. bind-confined N W Q R (f r) g (P .3 r v) K)
-  bind-confined N W Q R (equate n x y e f) g P K = (P .0, P .1, P .2, P .3, λ c. bind-confined N W Q R (f c) g (P .4 c) K)
-  bind-confined N W Q R (emit e p) g P K = bind-confined N W Q R p g P K
+  bind-confined N W Q R (equate n x y e f) g P K = (P .0, P .1, P .2, P .3, λ c. bind-confined N W Q R (f c) g (P .4 c) K, P .5)
+  bind-confined N W Q R (emit e p) g P K = (bind-confined N W Q R p g (P .0) K, P .1)
   bind-confined N W Q R (mark v p) g P K = bind-confined N W Q R p g P K
   bind-confined N W Q R (read f) g P K = λ s k. bind-confined N W Q R (f s) g (P s k) K
   bind-confined N W Q R (write o p) g P K = (P .0, bind-confined N W Q R p g (P .1) K)
@@ -245,17 +253,17 @@ module _ {N : Counts} {W : Numbers} where
     done-confined a q = record { by = q }
 
     -- a refusal
-    refuse-confined : {k n : ℕ} → Placed (N .nodes) k n → Confined N W Q (refuse k n)
+    refuse-confined : {k n : ℕ} → Placed (N .nodes) k n → k ≤ 11 → Confined N W Q (refuse k n)
     unfolding IsConfined
-    refuse-confined P = record { by = P }
+    refuse-confined P h = record { by = (P, h) }
 
     -- a refusal with 10
     pub refuse-10-confined : (n : ℕ) → n < N .nodes → Confined N W Q (refuse 10 n)
-    refuse-10-confined n h = refuse-confined (record { least = omega arith; most = omega arith; lower = h })
+    refuse-10-confined n h = refuse-confined (record { least = omega arith; most = omega arith; lower = h }) (omega arith)
 
     -- a refusal with 11
     refuse-11-confined : (n : ℕ) → n < N .nodes → Confined N W Q (refuse 11 n)
-    refuse-11-confined n h = refuse-confined (record { least = omega arith; most = omega arith; lower = h })
+    refuse-11-confined n h = refuse-confined (record { least = omega arith; most = omega arith; lower = h }) (omega arith)
 
     -- the one that is chosen of two
     cond-confined : (b : Bool) {p q : Walk A} → Confined N W Q p → Confined N W Q q → Confined N W Q (cond b p q)
@@ -267,10 +275,10 @@ module _ {N : Counts} {W : Numbers} where
     test-confined true P K = P refl
     test-confined false P K = K
 
-    -- an error, and then an answer
-    pub error-then : (e : TypingError) (a : A) → Q a → Confined N W Q (_>>=_ (error e) (λ u. done a))
+    -- an error that no equation raised, and then an answer
+    pub error-then : (k : ErrorKind) (p : Span) (x y : ℕ) (a : A) → Q a → Confined N W Q (_>>=_ (error (rule.own-error k p x y)) (λ u. done a))
     unfolding IsConfined error _>>=_
-    error-then e a q = record { by = q }
+    error-then k p x y a q = record { by = (q, refl) }
 
   -- a change of the walk's own
   change-confined : (f : Own → Own) → ((o : Own) → OwnTypes (W .type) o → OwnTypes (W .type) (f o)) → Confined N W Any (change f)
@@ -337,15 +345,15 @@ module _ {N : Counts} {W : Numbers} where
   unfolding ref-to
   ref-to-confined e v = intern-confined (ref e) refl refl v
 
-  -- an error
-  error-confined : (e : TypingError) → Confined N W Any (error e)
+  -- an error that no equation raised
+  error-confined : (k : ErrorKind) (p : Span) (x y : ℕ) → Confined N W Any (error (rule.own-error k p x y))
   unfolding IsConfined error
-  error-confined e = record { by = tt }
+  error-confined k p x y = record { by = (tt, refl) }
 
   -- an equation
-  equation-confined : (n x y : ℕ) (e : TypingError) → n < N .nodes → W .type x → W .type y → Confined N W Any (equation n x y e)
+  equation-confined : (n x y : ℕ) (e : TypingError) → n < N .nodes → W .type x → W .type y → e .a ≡ x → e .b ≡ y → Confined N W Any (equation n x y e)
   unfolding IsConfined equation
-  equation-confined n x y e h v u = record { by = (record { least = omega arith; most = omega arith; lower = h }, record { least = omega arith; most = omega arith; lower = h }, v, u, λ c. tt) }
+  equation-confined n x y e h v u p q = record { by = (record { least = omega arith; most = omega arith; lower = h }, record { least = omega arith; most = omega arith; lower = h }, v, u, λ c. tt, record { cause = refl; expected = p; got = q }) }
 
   -- a loop
   pub each-confined : (i k : ℕ) (f : ℕ → Step) → ((j : ℕ) → j < i + k → Confined N W Any (f j)) → Confined N W Any (for-each i k f)
@@ -394,14 +402,14 @@ module _ {N : Counts} {W : Numbers} where
     -- ── the rules that type no other node ──
 
     -- an equation, and then a type
-    pub equate-for-confined : (n x y : ℕ) (e : TypingError) (t : ℕ) → n < N .nodes → W .type x → W .type y → W .type t → Confined N W (W .type) (rule.equate-for n x y e t)
+    pub equate-for-confined : (n x y : ℕ) (e : TypingError) (t : ℕ) → n < N .nodes → W .type x → W .type y → W .type t → e .a ≡ x → e .b ≡ y → Confined N W (W .type) (rule.equate-for n x y e t)
     unfolding rule.equate-for
-    equate-for-confined n x y e t h v u q = then-confined _ (equation-confined n x y e h v u) (λ c k. done-confined t q)
+    equate-for-confined n x y e t h v u q a b = then-confined _ (equation-confined n x y e h v u a b) (λ c k. done-confined t q)
 
     -- an equation alone
-    pub equate-on-confined : (n x y : ℕ) (e : TypingError) → n < N .nodes → W .type x → W .type y → Confined N W Any (rule.equate-on n x y e)
+    pub equate-on-confined : (n x y : ℕ) (e : TypingError) → n < N .nodes → W .type x → W .type y → e .a ≡ x → e .b ≡ y → Confined N W Any (rule.equate-on n x y e)
     unfolding rule.equate-on
-    equate-on-confined n x y e h v u = then-confined _ (equation-confined n x y e h v u) (λ c k. done-confined tt tt)
+    equate-on-confined n x y e h v u a b = then-confined _ (equation-confined n x y e h v u a b) (λ c k. done-confined tt tt)
 
     -- the type of an operation
     bin-known : (met : Bool) (o : BinOp) (x : ℕ) → W .type x → W .type (cond met (rule.bin-type o x) rule.err-type)
@@ -413,12 +421,12 @@ module _ {N : Counts} {W : Numbers} where
     -- a binary operation
     pub bin-op-confined : (n : ℕ) (o : BinOp) (l r x y : ℕ) → n < N .nodes → W .type x → W .type y → Confined N W (W .type) (rule.bin-op n o l r x y)
     unfolding rule.bin-op
-    bin-op-confined n o l r x y h v u = then-confined _ (equation-confined n x y _ h v u) (λ met k. done-confined _ (bin-known met o x v))
+    bin-op-confined n o l r x y h v u = then-confined _ (equation-confined n x y (rule.between error·K.NoBinaryOp l r x y) h v u refl refl) (λ met k. done-confined _ (bin-known met o x v))
 
     -- no operator
     no-unary-op-confined : (e x : ℕ) → Confined N W (W .type) (rule.no-unary-op e x)
     unfolding rule.no-unary-op
-    no-unary-op-confined e x = error-then _ _ (K .type 12 (omega arith))
+    no-unary-op-confined e x = error-then _ _ _ _ _ (K .type 12 (omega arith))
 
     -- what stands behind a reference
     deref-confined : (e x : ℕ) (o : Option ℕ) → Maybe (W .type) o → Confined N W (W .type) (rule.deref e x o)
@@ -456,7 +464,7 @@ module _ {N : Counts} {W : Numbers} where
     -- an element, or an error
     element-or-error-confined : (n x : ℕ) (o : Option ℕ) → Maybe (W .type) o → Confined N W (Maybe (W .type)) (rule.element-or-error n x o)
     element-or-error-confined n x (some e) h = done-confined (some e) h
-    element-or-error-confined n x none h = error-then _ _ tt
+    element-or-error-confined n x none h = error-then _ _ _ _ _ tt
 
     -- the element of what is indexed
     pub element-of-confined : (n x : ℕ) → Confined N W (Maybe (W .type)) (rule.element-of n x)
@@ -466,12 +474,12 @@ module _ {N : Counts} {W : Numbers} where
     -- a condition
     pub condition-confined : (e x : ℕ) → Confined N W Any (rule.condition e x)
     unfolding rule.condition
-    condition-confined e x = cond-confined (eqb x rule.bool-type) (done-confined tt tt) (error-confined _)
+    condition-confined e x = cond-confined (eqb x rule.bool-type) (done-confined tt tt) (error-confined _ _ _ _)
 
     -- a `return`
     pub returned-confined : (n p y : ℕ) → n < N .nodes → W .type y → Confined N W (W .type) (rule.returned n p y)
     unfolding rule.returned
-    returned-confined n p y h v = then-confined _ output-confined (λ x u. equate-for-confined n x y _ _ h u v (K .type 13 (omega arith)))
+    returned-confined n p y h v = then-confined _ output-confined (λ x u. equate-for-confined n x y (rule.mismatch error·K.TypeMismatch (rule.at p) x y 0) _ h u v (K .type 13 (omega arith)) refl refl)
 
     -- the types of a let
     local-type-confined : (n x t : ℕ) → W .type t → Confined N W Any (rule.local-type n x t)
@@ -485,7 +493,7 @@ module _ {N : Counts} {W : Numbers} where
 
     -- a let with init
     pub let-with-init-confined : (n : ℕ) (t : MaybeType) (y : ℕ) → n < N .nodes → TypeBy (W .type) t → W .type y → Confined N W Any (rule.let-with-init n t y)
-    let-with-init-confined n (type.Of t) y h v u = then-confined _ (equation-confined n (t .0) y _ h v u) (λ c q. local-type-confined n y (t .0) v)
+    let-with-init-confined n (type.Of t) y h v u = then-confined _ (equation-confined n (t .0) y (rule.mismatch error·K.TypeMismatch (rule.at n) (t .0) y 0) h v u refl refl) (λ c q. local-type-confined n y (t .0) v)
     let-with-init-confined n type.Absent y h v u = local-type-confined n y y u
 
     -- a local
@@ -511,17 +519,17 @@ module _ {N : Counts} {W : Numbers} where
     -- the method of a path
     path-method-confined : (n x name : ℕ) (d : MaybeDef) → DefBy (λ i. i < N .defs) d → Confined N W (W .type) (rule.path-method n x name d)
     path-method-confined n x name (def.Of d) h = then-confined _ (set-extra-confined n _) (λ u q. fn-def-confined (d .0) (K .def (d .0) h))
-    path-method-confined n x name def.Absent h = then-confined _ (set-extra-confined n _) (λ u q. error-then _ _ (K .type 12 (omega arith)))
+    path-method-confined n x name def.Absent h = then-confined _ (set-extra-confined n _) (λ u q. error-then _ _ _ _ _ (K .type 12 (omega arith)))
 
     -- a field that is sought
     field-of-confined : (e x name : ℕ) (t : MaybeType) → TypeBy (W .type) t → Confined N W (W .type) (rule.field-of e x name t)
     field-of-confined e x name (type.Of t) h = done-confined (t .0) h
-    field-of-confined e x name type.Absent h = error-then _ _ (K .type 12 (omega arith))
+    field-of-confined e x name type.Absent h = error-then _ _ _ _ _ (K .type 12 (omega arith))
 
     -- what is no instance
     no-instance-confined : (e x : ℕ) (s : Shape) → Confined N W (W .type) (rule.no-instance e x s)
     unfolding rule.no-instance
-    no-instance-confined e x s = cond-confined (eqb (head s) error-head) (done-confined _ (K .type 12 (omega arith))) (error-then _ _ (K .type 12 (omega arith)))
+    no-instance-confined e x s = cond-confined (eqb (head s) error-head) (done-confined _ (K .type 12 (omega arith))) (error-then _ _ _ _ _ (K .type 12 (omega arith)))
 
     -- the output of a lambda
     pub lambda-output-confined : (n : ℕ) (t : MaybeType) → TypeBy (W .type) t → Confined N W (W .type) (rule.lambda-output n t)
@@ -540,12 +548,12 @@ module _ {N : Counts} {W : Numbers} where
     -- a lambda's equation and its type
     pub lambda-rule-confined : (cells : List ℕ) (n e o y : ℕ) (t : Items) → n < N .nodes → W .type o → W .type y → Confined N W (W .type) (rule.lambda cells n e o y t)
     unfolding rule.lambda
-    lambda-rule-confined cells n e o y t h v u = then-confined _ (equate-on-confined n o y _ h v u) (λ c q. make-lambda-confined n o _ v)
+    lambda-rule-confined cells n e o y t h v u = then-confined _ (equate-on-confined n o y (rule.mismatch error·K.TypeMismatch (rule.at e) o y 0) h v u refl refl) (λ c q. make-lambda-confined n o _ v)
 
     -- a method that was sought
     method-or-error-confined : (n e x name : ℕ) (d : MaybeDef) → DefBy (λ i. i < N .defs) d → Confined N W (Maybe (W .def)) (rule.method-or-error n e x name d)
     method-or-error-confined n e x name (def.Of d) h = then-confined _ (set-extra-confined n _) (λ u q. done-confined _ (K .def (d .0) h))
-    method-or-error-confined n e x name def.Absent h = error-then _ _ tt
+    method-or-error-confined n e x name def.Absent h = error-then _ _ _ _ _ tt
 
     module _ (R : Refers N b) where
       -- a field, by the instance
@@ -561,7 +569,7 @@ module _ {N : Counts} {W : Numbers} where
       -- what is not called
       not-called-confined : (n x : ℕ) → Confined N W (Called W) (rule.not-called n x)
       unfolding rule.not-called
-      not-called-confined n x = error-then _ _ tt
+      not-called-confined n x = error-then _ _ _ _ _ tt
 
       -- what can be called
       called-confined : (n x : ℕ) (s : Shape) → Parts W s → Confined N W (Called W) (rule.called (b .rows) (b .cells) n x s)
@@ -594,11 +602,11 @@ module _ {N : Counts} {W : Numbers} where
       -- the amounts of a call
       pub amounts-confined : (p : Span) (f : Callee) (given : ℕ) → Confined N W Any (rule.amounts (b .rows) (b .cells) p f given)
       unfolding rule.amounts rule.amounts-of
-      amounts-confined p f given = then-confined _ all-types-confined (λ ts k. cond-confined (eqb (length (inputsOf ts (b .rows) (b .cells) f)) given) (done-confined tt tt) (error-confined _))
+      amounts-confined p f given = then-confined _ all-types-confined (λ ts k. cond-confined (eqb (length (inputsOf ts (b .rows) (b .cells) f)) given) (done-confined tt tt) (error-confined _ _ _ _))
 
       -- an argument and its input
       argument-for-confined : (n : ℕ) (p : Span) (i y : ℕ) (t : MaybeType) → n < N .nodes → W .type y → TypeBy (W .type) t → Confined N W Any (rule.argument-for (b .rows) (b .cells) n p i y t)
-      argument-for-confined n p i y (type.Of x) h u v = equate-on-confined n (x .0) y _ h v u
+      argument-for-confined n p i y (type.Of x) h u v = equate-on-confined n (x .0) y (rule.mismatch error·K.WrongArgumentTy p (x .0) y i) h v u refl refl
       argument-for-confined n p i y type.Absent h u v = done-confined tt tt
 
       -- an argument

@@ -26,7 +26,9 @@ use Rattle.nodes.specs.declared.Block.the-variants as block
 use Rattle.nodes.specs.declared.Node.{Node}
 use Rattle.nodes.specs.declared.Node.the-variants as form
 use Rattle.nodes.specs.Nodes.{Body, item, declaredAt, nodeAt, letAt, blockAt, fnLine, asArr}
+use Rattle.record.specs.declared.ErrorKind.the-variants as error·K
 use Rattle.record.specs.declared.Span.{Span}
+use Rattle.record.specs.declared.Span.the-variants as span
 use Rattle.rules.specs.Rules as rule
 use Rattle.walk.specs.Walk.{Visit, two, typeck-expr-bin-op, typeck-assign, typeck-op-assign, typeck-expr-un-op, typeck-expr-field, element, elements, rest, typeck-expr-list, index-of, typeck-expr-index, typeck-local, typeck-stmt, stmt, stmts, tail, typeck-block, block-of, block-at, typeck-else, typeck-branches, typeck-expr-if, typeck-loop, arg, args, verify-arguments-for-call, call-of, typeck-call, verify-arguments-for-method-call, meth-call-of, typeck-expr-meth-call, typeck-return, lambda-body, typeck-lambda, rule-of, typeck-rule, typeck-expr}
 use Rattle.resolve.specs.Resolve.{boundOf, endBy, endFrom, param-type, param, params, result, typeck, end-of, drawn-as, open-type, variable-type, settled, resolve-variable, resolve-array, resolve-element, resolve-shape, resolve-type-variable, final-type, resolve-node, resolve-nodes, bodyWith}
@@ -52,7 +54,7 @@ module _ {N : Counts} {W : Numbers} {b : Body} (K : Known N b W) (R : Refers N b
       full : 0 < t .count → Confined N W (W .type) (_>>=_ (E (item (b .cells) t 0)) (λ x. rest b E n t x))
       full l =
           then-confined _ (visit _ (I 0 l))
-          (λ x u. then-confined _ (each-confined 1 (t .count - 1) _ (λ i k. then-confined _ (visit _ (I i (omega arith))) (λ y v. equate-on-confined K n x y _ h u v))) (λ z q. array-of-confined x u))
+          (λ x u. then-confined _ (each-confined 1 (t .count - 1) _ (λ i k. then-confined _ (visit _ (I i (omega arith))) (λ y v. equate-on-confined K n x y (rule.mismatch error·K.TypeMismatch (rule.at (item (b .cells) t i)) x y 0) h u v refl refl))) (λ z q. array-of-confined x u))
 
       by : (q : Bool) → eqb (t .count) 0 ≡ q → Confined N W (W .type) (cond q (rule.empty-list n) (_>>=_ (E (item (b .cells) t 0)) (λ x. rest b E n t x)))
       by true p = empty-list-confined K n
@@ -62,7 +64,7 @@ module _ {N : Counts} {W : Numbers} {b : Body} (K : Known N b W) (R : Refers N b
   index-of-confined : (n i : ℕ) (o : Option ℕ) → n < N .nodes → i < N .nodes → Maybe (W .type) o → Confined N W (W .type) (index-of b E n i o)
   unfolding rule.index index-of
   index-of-confined n i none h hi u = done-confined _ (K .type 12 (omega arith))
-  index-of-confined n i (some e) h hi u = then-confined _ (visit i hi) (λ y v. equate-for-confined K n _ y _ e h (K .type 5 (omega arith)) v u)
+  index-of-confined n i (some e) h hi u = then-confined _ (visit i hi) (λ y v. equate-for-confined K n _ y (rule.mismatch error·K.TypeMismatch (rule.at n) rule.u64-type y 0) e h (K .type 5 (omega arith)) v u refl refl)
 
   -- a let
   local-confined : (n : ℕ) (t : MaybeType) (e : MaybeNode) → n < N .nodes → TypeBy (W .type) t → MaybeLower (N .nodes) e → Confined N W Any (typeck-local b E n t e)
@@ -100,7 +102,7 @@ module _ {N : Counts} {W : Numbers} {b : Body} (K : Known N b W) (R : Refers N b
   else-confined : (n x : ℕ) (e : MaybeNode) → n < N .nodes → W .type x → MaybeLower (N .nodes) e → Confined N W (W .type) (typeck-else b E n x e)
   unfolding rule.branches typeck-else
   else-confined n x node.Absent h u m = done-confined _ (K .type 0 (omega arith))
-  else-confined n x (node.Of e) h u m = then-confined _ (visit (e .0) m) (λ y v. equate-for-confined K n x y _ x h u v u)
+  else-confined n x (node.Of e) h u m = then-confined _ (visit (e .0) m) (λ y v. equate-for-confined K n x y (rule.mismatch error·K.TypeMismatch (rule.at (e .0)) x y 0) x h u v u refl refl)
 
   -- the arguments
   args-confined : (n : ℕ) (p : Span) (f : Callee) (t : Items) (from : ℕ) → n < N .nodes → Callable W f → ItemsLower N (b .cells) t → Confined N W Any (args b E n p f t from)
@@ -141,8 +143,8 @@ module _ {N : Counts} {W : Numbers} {b : Body} (K : Known N b W) (R : Refers N b
   rule-confined n (form.Field e name) h c = then-confined _ (visit (e .0) c) (λ x u. field-confined K R (e .0) x name)
   rule-confined n (form.List t) h c = list-confined n t h c
   rule-confined n (form.Index t i) h c = then-confined _ (visit (t .0) (c .0)) (λ x u. then-confined _ (element-of-confined K n x) (λ e v. index-of-confined n (i .0) e h (c .1) v))
-  rule-confined n (form.Assign v e) h c = then-confined _ (two-confined (v .0) (e .0) (c .0) (c .1)) (λ t q. equate-for-confined K n _ _ _ _ h (q .0) (q .1) (K .type 0 (omega arith)))
-  rule-confined n (form.OpAssign v e) h c = then-confined _ (two-confined (v .0) (e .0) (c .0) (c .1)) (λ t q. equate-for-confined K n _ _ _ _ h (q .0) (q .1) (K .type 0 (omega arith)))
+  rule-confined n (form.Assign v e) h c = then-confined _ (two-confined (v .0) (e .0) (c .0) (c .1)) (λ t q. equate-for-confined K n (t .0) (t .1) (rule.between error·K.TypeMismatch (v .0) (e .0) (t .0) (t .1)) _ h (q .0) (q .1) (K .type 0 (omega arith)) refl refl)
+  rule-confined n (form.OpAssign v e) h c = then-confined _ (two-confined (v .0) (e .0) (c .0) (c .1)) (λ t q. equate-for-confined K n (t .0) (t .1) (rule.mismatch error·K.NoBinaryOp (rule.at n) (t .0) (t .1) 0) _ h (q .0) (q .1) (K .type 0 (omega arith)) refl refl)
   rule-confined n (form.If a k e) h c =
       then-confined _ (visit (a .0) (c .0))
       (λ x u. then-confined _ (condition-confined K (a .0) x)
@@ -212,7 +214,7 @@ module _ {N : Counts} {W : Numbers} {b : Body} (K : Known N b W) where
   open-type-confined : (o : Option ℕ) (k : Kind) → Confined N W (W .type) (open-type o k)
   open-type-confined o integer = done-confined _ (K .type 9 (omega arith))
   open-type-confined o floating = done-confined _ (K .type 11 (omega arith))
-  open-type-confined o regular = error-then _ _ (K .type 12 (omega arith))
+  open-type-confined o regular = error-then _ _ _ _ _ (K .type 12 (omega arith))
 
   -- the end of bindings
   settled-confined : (y : ℕ) (o : Option ℕ) → W .type y → Confined N W (W .type) (settled y o)
@@ -259,7 +261,7 @@ module _ (n : Counts) (rows cells : List ℕ) (w : WellFormed n rows cells) {W :
   unfolding typeck result fnLine
   typeck-confined =
       let h = body-lower n rows cells w in
-      then-confined _ (expr-confined (bodyWith n rows cells) K (refers n rows cells w) 64 _ h) (λ y u. then-confined _ output-confined (λ x v. equate-on-confined K _ x y _ h v u))
+      then-confined _ (expr-confined (bodyWith n rows cells) K (refers n rows cells w) 64 _ h) (λ y u. then-confined _ output-confined (λ x v. equate-on-confined K _ x y (rule.mismatch error·K.TypeMismatch span.Signature x y 0) h v u refl refl))
 
   -- what a body runs behind its type lines
   pub behind-types-confined : Confined n W Any (behindTypes n rows cells)

@@ -46,7 +46,7 @@ module _ {A : Type 0} where
 -- ── more types ──
 
 -- the definitions and instances of the file, and types by T
-abbrev standing : Counts → (ℕ → Type 0) → Numbers
+abbrev pub standing : Counts → (ℕ → Type 0) → Numbers
 standing N T = record { type = T; def = λ d. d < N .defs; inst = λ k. k < N .insts }
 
 module _ (N : Counts) (T U : ℕ → Type 0) (h : (x : ℕ) → T x → U x) where
@@ -66,7 +66,7 @@ module _ (N : Counts) (T U : ℕ → Type 0) (h : (x : ℕ) → T x → U x) whe
   base-more (inst k) m = m
 
   -- what a type is made of
-  parts-more : (s : Shape) → Parts (standing N T) s → Parts (standing N U) s
+  pub parts-more : (s : Shape) → Parts (standing N T) s → Parts (standing N U) s
   parts-more (base b) m = base-more b m
   parts-more (var v) m = tt
   parts-more (arr e) m = h e m
@@ -102,7 +102,7 @@ state-types N s I T h = record {
     by v (some r) e = h r (I .track .tables .claim .good .held v r e)
 
 -- what holds of each row of a table and of one more holds of each row of both
-rows-more : (P : Shape → Type 0) (l : List Shape) (t : Shape) → ((x : ℕ) → P (row l x)) → P t → (x : ℕ) → P (row (l ++ t ∷ []) x)
+pub rows-more : (P : Shape → Type 0) (l : List Shape) (t : Shape) → ((x : ℕ) → P (row l x)) → P t → (x : ℕ) → P (row (l ++ t ∷ []) x)
 rows-more P [] t h p zero = p
 rows-more P [] t h p (suc x) = h x
 rows-more P (s ∷ l) t h p zero = h zero
@@ -211,7 +211,7 @@ run-in-rows N (equate n x y e f) s I H =
     by refused12 t k r w again = tt
     by refused13 t k r w again = tt
     by dry t k r w again = tt
-run-in-rows N (emit e p) s I H = run-in-rows N p (emitted e s) (record { track = track {A = Unit {0}} (emit e (done tt)) s (I .track); rows = I .rows; own = I .own }) H
+run-in-rows N (emit e p) s I H = run-in-rows N p (emitted e s) (record { track = track {A = Unit {0}} (emit e (done tt)) s (I .track); rows = I .rows; own = I .own }) (λ T h. H T h .0)
 run-in-rows N (mark v p) s I H = run-in-rows N p (marking v s) (record { track = track {A = Unit {0}} (mark v (done tt)) s (I .track); rows = I .rows; own = I .own }) H
 run-in-rows N (read f) s I H = (I .own, run-in-rows N (f s) s I (λ T h. H T h s (state-types N s I T h)))
 run-in-rows N (write o p) s I H =
@@ -246,7 +246,7 @@ module _ (n : Counts) (rows cells : List ℕ) (w : WellFormed n rows cells) wher
       by (definition f p) = rw p (w .defs-there i h f)
 
   -- so is each row behind the type lines
-  declared-parts : (k : ℕ) → k ≤ n .types → (x : ℕ) → Parts (standing n (Declared n)) (row (declared rows cells k) x)
+  pub declared-parts : (k : ℕ) → k ≤ n .types → (x : ℕ) → Parts (standing n (Declared n)) (row (declared rows cells k) x)
   unfolding declared
   declared-parts zero h x = row-all (Parts (standing n (Declared n))) fixed-types (search) tt x
   declared-parts (suc k) h x = rows-more (Parts (standing n (Declared n))) (declared rows cells k) (lineShape rows cells k) (declared-parts k (omega arith)) (line-parts k (omega arith)) x
@@ -268,7 +268,7 @@ module _ (n : Counts) (rows cells : List ℕ) (w : WellFormed n rows cells) wher
       }
 
   -- each declared type is a type, wherever each row is
-  known : (T : ℕ → Type 0) → ((x : ℕ) → x < length (declared rows cells (n .types)) → T x) → Known n (bodyWith n rows cells) (standing n T)
+  pub known : (T : ℕ → Type 0) → ((x : ℕ) → x < length (declared rows cells (n .types)) → T x) → Known n (bodyWith n rows cells) (standing n T)
   known T h =
       let R : Refers n (bodyWith n rows cells) = refers n rows cells w in
       let k : (x : ℕ) → Declared n x → T x = λ x l. h x (declared-below x l) in

@@ -17,5 +17,9 @@ pub mod Made
 pub mod Answered
 pub mod Refusals
 pub mod Raised
+pub mod Newest
+pub mod Causes
+pub mod Instances
+pub mod Ended
 pub mod Demand
 pub mod Claims

@@ -92,7 +92,7 @@ module _ (l : List Shape) where
       let b = clip (length (s .rows)) y in
       let t = raised n a b (solved a b s) s in
       react-cases (λ r. More l (r .1 .rows)) n ((solved a b s) .0) e (λ c u. run (g c) u) t (run-more N (g true) (f .4 true) t m) (run-more N (g false) (f .4 false) (emitted (e mismatch) t) m) m m
-  run-more N (emit e p) f s m = run-more N p f (emitted e s) m
+  run-more N (emit e p) f s m = run-more N p (f .0) (emitted e s) m
   run-more N (mark v p) f s m = run-more N p f (marking v s) m
   run-more N (read g) f s m = run-more N (g s) (f s (any-state s)) s m
   run-more N (write o p) f s m = run-more N p (f .1) (written o s) m
@@ -144,7 +144,7 @@ at-confined P l h N (equate n x y e g) f s m =
     let b = clip (length (s .rows)) y in
     let t = raised n a b (solved a b s) s in
     (h s m, behind-cases ((solved a b s) .0) e (λ c u. AtEquations P (g c) u) t (at-confined P l h N (g true) (f .4 true) t m) (at-confined P l h N (g false) (f .4 false) (emitted (e mismatch) t) m))
-at-confined P l h N (emit e p) f s m = at-confined P l h N p f (emitted e s) m
+at-confined P l h N (emit e p) f s m = at-confined P l h N p (f .0) (emitted e s) m
 at-confined P l h N (mark v p) f s m = at-confined P l h N p f (marking v s) m
 at-confined P l h N (read g) f s m = at-confined P l h N (g s) (f s (any-state s)) s m
 at-confined P l h N (write o p) f s m = at-confined P l h N p (f .1) (written o s) m

@@ -24,7 +24,7 @@ abbrev pub AtNodes : ℕ → List Equation → Type 0
 AtNodes N l = All (λ (q : Equation). q .node < N) l
 
 -- a type that is made raises none
-interned-log : (t : Shape) (s : State) → (interned t s) .1 .log ≡ s .log
+pub interned-log : (t : Shape) (s : State) → (interned t s) .1 .log ≡ s .log
 unfolding interned appended
 interned-log t s = by (sane (length (s .rows)) t)
   where
@@ -49,7 +49,7 @@ run-raised N (equate n x y e f) c s h =
     let t = raised n a b (solved a b s) s in
     let g : AtNodes (N .nodes) (t .log) = (c .0 .lower, h) in
     react-cases (λ r. AtNodes (N .nodes) (r .1 .log)) n ((solved a b s) .0) e (λ d u. run (f d) u) t (run-raised N (f true) (c .4 true) t g) (run-raised N (f false) (c .4 false) (emitted (e mismatch) t) g) g g
-run-raised N (emit e p) c s h = run-raised N p c (emitted e s) h
+run-raised N (emit e p) c s h = run-raised N p (c .0) (emitted e s) h
 run-raised N (mark v p) c s h = run-raised N p c (marking v s) h
 run-raised N (read f) c s h = run-raised N (f s) (c s (any-state s)) s h
 run-raised N (write o p) c s h = run-raised N p (c .1) (written o s) h

@@ -35,14 +35,14 @@ react-placed N n o e g s p q h again = react-cases (λ r. PlacedBy N (r .1 .stop
 run-placed : {A : Type 0} (N : Counts) (p : Walk A) → IsConfined N any-numbers Any p → (s : State) → PlacedBy (N .nodes) (s .stop) → PlacedBy (N .nodes) ((run p s) .1 .stop)
 unfolding run IsConfined drawn emitted written refused marking raised
 run-placed N (done a) c s h = h
-run-placed N (refuse k n) c s h = c
+run-placed N (refuse k n) c s h = c .0
 run-placed N (draw k o f) c s h = run-placed N (f (length (s .rows))) (c (length (s .rows)) tt) (drawn k o s) h
 run-placed N (intern t f) c s h = run-placed N (f ((interned t s) .0)) (c .3 ((interned t s) .0) tt) ((interned t s) .1) (rw (interned-stop t s) h)
 run-placed N (equate n x y e f) c s h =
     let a = clip (length (s .rows)) x in
     let b = clip (length (s .rows)) y in
     react-placed (N .nodes) n ((solved a b s) .0) e (λ d t. run (f d) t) (raised n a b (solved a b s) s) (c .0) (c .1) h (λ d t. run-placed N (f d) (c .4 d) t)
-run-placed N (emit e p) c s h = run-placed N p c (emitted e s) h
+run-placed N (emit e p) c s h = run-placed N p (c .0) (emitted e s) h
 run-placed N (mark v p) c s h = run-placed N p c (marking v s) h
 run-placed N (read f) c s h = run-placed N (f s) (c s (any-state s)) s h
 run-placed N (write o p) c s h = run-placed N p (c .1) (written o s) h

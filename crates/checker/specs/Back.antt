@@ -1,10 +1,11 @@
--- The types, kinds and bindings that are read of the tables on 0 are those of the state in which the rules end, and each made type is of one of six forms. Assumes nothing.
+-- The types, kinds, bindings and errors that are read of the tables on 0 are those of the state in which the rules end, and each made type is of one of six forms. Assumes nothing.
 use mathlib.Core.Path.{_≡_, refl, sym}
 use mathlib.Core.List.{List, [], _∷_, _++_}
 use mathlib.Core.Bool.{true}
 use Prim.Native.Nat.{ℕ, suc, zero, _+_, _-_, _<_}
 use native.Mathlib.Omega.{arith}
 use lib.ListN.{length, getD, replicate, length-drop}
+use lib.Seq.{take-at}
 use Rattle.theory.specs.Rules.{Shape}
 use Rattle.theory.specs.Basics.{All}
 use Rattle.type_table.specs.Memory.{tab}
@@ -23,8 +24,10 @@ use Rattle.tables.specs.Rows.{padded}
 use Rattle.tables.specs.Types.{typeTable}
 use Rattle.tables.specs.Read.{madeAt}
 use Rattle.tables.specs.Back.{kinds-back, binds-back, made-back}
+use Rattle.errors.specs.Rows.{errorRows}
+use Rattle.errors.specs.Filling.{length-error-rows}
 use Rattle.answers.specs.Lent.{Lent, firstMade, madeTypes, totals, filled}
-use Rattle.checker.specs.Handed.{typesHeld, kindsHeld, bindsHeld}
+use Rattle.checker.specs.Handed.{typesHeld, kindsHeld, bindsHeld, errorsHeld}
 
 -- ── zeros behind a table are read as before ──
 
@@ -92,3 +95,8 @@ module _ (n : Counts) (rows cells : List ℕ) (w : WellFormed n rows cells) (l :
   pub binds-held : bindsHeld (totals n last) (filled n rows cells last l) ≡ last .mem .binds
   unfolding filled
   binds-held = binds-back last (length (l .vars)) (variables n rows cells (fnLine rows cells .output .0) .0)
+
+  -- the rows of the errors
+  pub errors-held : errorsHeld (totals n last) (filled n rows cells last l) ≡ errorRows (last .errs)
+  unfolding filled
+  errors-held = take-at (errorRows (last .errs)) _ (length (last .errs)) (length-error-rows (last .errs))

@@ -2,7 +2,7 @@
 use mathlib.Core.Path.{_≡_, refl, sym, ap, subst, _∙_}
 use mathlib.Core.Logic.{_↔_}
 use mathlib.Core.List.{List, [], _∷_, _++_}
-use mathlib.Core.Option.{some}
+use mathlib.Core.Option.{Option, some}
 use mathlib.Core.Bool.{true}
 use Prim.Native.Nat.{ℕ, _<_}
 use native.Mathlib.Omega.{arith}
@@ -11,23 +11,26 @@ use Rattle.theory.specs.Program.{Equation}
 use Rattle.theory.specs.Basics.{All}
 use Rattle.theory.specs.Ways.{Way, Kinded, Agrees, Sided, Meets, Went, Failed}
 use Rattle.refs.specs.declared.Counts.{Counts}
+use Rattle.record.specs.Steps.{State}
 use Rattle.body.specs.declared.Answer.{Answer as Reading}
 use Rattle.body.specs.declared.Answer.the-variants as reading
 use Rattle.well_formed.specs.Good.{WellFormed}
 use Rattle.well_formed.specs.Zeros.{ZeroBehind}
 use Rattle.well_formed.specs.Claims as reader
 use Rattle.bounds.specs.Confined.{isMade}
+use Rattle.bounds.specs.Instances.{WayOf}
 use Rattle.bounds.specs.Claims as walk
+use Rattle.errors.specs.Rows.{errorRows}
 use Rattle.tables.specs.Read.{madeAt}
 use Rattle.answers.specs.declared.Totals.{Totals}
 use Rattle.answers.specs.declared.Answer.the-variants as answer
 use Rattle.answers.specs.Lent.{Lent, totals}
 use Rattle.checker.specs.Check.{readingOf, checkOf}
-use Rattle.checker.specs.File.{stateBy, stateOf, equationsIn, equationsOf, typesIn, typesOf, kindsIn, kindsOf}
-use Rattle.checker.specs.Handed.{typesHeld, kindsHeld, bindsHeld}
+use Rattle.checker.specs.File.{stateBy, stateOf, equationsIn, equationsOf, typesIn, typesOf, kindsIn, kindsOf, errorsIn, errorsOf}
+use Rattle.checker.specs.Handed.{typesHeld, kindsHeld, bindsHeld, errorsHeld}
 use Rattle.checker.specs.Answers.{lastOf, tablesOf, read-well-formed, On0, on-0}
 use Rattle.checker.specs.Limits.{Limited, limited, Zero, zero-behind}
-use Rattle.checker.specs.Back.{types-held, forms-held, kinds-held, binds-held}
+use Rattle.checker.specs.Back.{types-held, forms-held, kinds-held, binds-held, errors-held}
 
 -- a list without elements
 no-elements : {A : Type 0} (l : List A) → length l ≡ 0 → l ≡ []
@@ -45,7 +48,7 @@ module _ (s : List ℕ) where
   read-zero = reader.zero-behind-on-0 s _ _
 
   -- the state of a body that was read
-  state-is : (n : Counts) → readingOf s .answer ≡ reading.Body n → stateOf s ≡ some (lastOf s n)
+  pub state-is : (n : Counts) → readingOf s .answer ≡ reading.Body n → stateOf s ≡ some (lastOf s n)
   unfolding stateOf
   state-is n e = ap (λ (a : Reading). stateBy a (readingOf s .rows) (readingOf s .cells)) e
 
@@ -108,6 +111,12 @@ module _ (s : List ℕ) (l : Lent) (t : Totals) (e : checkOf s l .answer ≡ ans
   pub held-types : (typesHeld t (checkOf s l .tables) ≡ typesOf s) × (kindsHeld t (checkOf s l .tables) ≡ kindsOf s)
   held-types = (types ∙ sym (ap typesIn (state-is s (t .declared) (o .read))), kinds ∙ sym (ap kindsIn (state-is s (t .declared) (o .read))))
 
+  -- the rows of errors in use are those of the errors of the file
+  pub held-errors : errorsHeld t (checkOf s l .tables) ≡ errorRows (errorsOf s)
+  held-errors =
+      handed (λ v u. errorsHeld v u ≡ errorRows (lastOf s (t .declared) .errs)) (errors-held (t .declared) (readingOf s .rows) (readingOf s .cells) good l)
+      ∙ sym (ap (λ (p : Option State). errorRows (errorsIn p)) (state-is s (t .declared) (o .read)))
+
   -- answered 0 without an error, each equation with plain sides or Diverges as its got side: a way meets all equations of the file exactly when it agrees with the bindings
   -- that are handed back, and at least one such way exists
   pub exactly : t .errors ≡ 0 → let u = checkOf s l .tables in
@@ -120,3 +129,12 @@ module _ (s : List ℕ) (l : Lent) (t : Totals) (e : checkOf s l .answer ≡ ans
       let log : equationsOf s ≡ lastOf s n .log = ap equationsIn (state-is s n (o .read)) in
       let a = walk.demand-3-without-error n (readingOf s .rows) (readingOf s .cells) k (walk.answered-0 n (readingOf s .rows) (readingOf s .cells) (o .ended)) in
       rw (types, kinds, binds, log) a
+
+  -- and one of them gives only types of the instances of the file
+  pub own-instances : t .errors ≡ 0 → let u = checkOf s l .tables in
+      All (Sided (typesHeld t u)) (equationsOf s) → (w : Way) × WayOf (t .declared .insts) w × Kinded (kindsHeld t u) w × All (Meets (typesHeld t u) w) (equationsOf s)
+  own-instances z h =
+      let n : Counts = t .declared in
+      let a = exactly z h .1 in
+      let log : equationsOf s ≡ lastOf s n .log = ap equationsIn (state-is s n (o .read)) in
+      rw (types, kinds, log) (walk.own-instances n (readingOf s .rows) (readingOf s .cells) good (a .0) (rw (← kinds) (a .1)) (rw (← types, ← log) (a .2)))

@@ -1,4 +1,4 @@
--- What a body file raises by itself, whatever is lent to `check`: its equations, its types and its variables. Definitions alone.
+-- What a body file raises by itself, whatever is lent to `check`: its equations and the states in which it raises them, its types, variables and errors. Definitions alone.
 use mathlib.Core.List.{List, []}
 use mathlib.Core.Option.{Option, none, some}
 use Prim.Native.Nat.{ℕ}
@@ -7,8 +7,11 @@ use Rattle.theory.specs.Program.{Equation}
 use Rattle.type_table.specs.Sound.{fixed-types}
 use Rattle.body.specs.declared.Answer.{Answer as Reading}
 use Rattle.body.specs.declared.Answer.the-variants as reading
+use Rattle.record.specs.declared.TypingError.{TypingError}
 use Rattle.record.specs.Steps.{State}
-use Rattle.resolve.specs.Body.{last-state}
+use Rattle.resolve.specs.Resolve.{type-body}
+use Rattle.resolve.specs.Body.{first-state, last-state}
+use Rattle.bounds.specs.Ended.{raisedIn}
 use Rattle.checker.specs.Check.{readingOf}
 
 -- the state in which the walk ends; a file that is declined before it has none
@@ -37,6 +40,18 @@ abbrev pub kindsIn : Option State → List Kind
 kindsIn none = []
 kindsIn (some t) = t .kinds
 
+-- its errors, the newest first
+abbrev pub errorsIn : Option State → List TypingError
+errorsIn none = []
+errorsIn (some t) = t .errs
+
+-- the states in which a walk raises its equations, the newest first
+abbrev pub raisedBy : Reading → List ℕ → List ℕ → List State
+raisedBy (reading.Body n) rows cells = raisedIn (type-body n rows cells) (first-state rows cells) []
+raisedBy reading.TooLong rows cells = []
+raisedBy reading.ShortTable rows cells = []
+raisedBy (reading.Refused x k) rows cells = []
+
 -- "A body's equations are those its walk raises under these rules, in order": the newest first
 abbrev pub equationsOf : List ℕ → List Equation
 equationsOf s = equationsIn (stateOf s)
@@ -48,3 +63,11 @@ typesOf s = typesIn (stateOf s)
 -- the kinds of the variables that the walk draws
 abbrev pub kindsOf : List ℕ → List Kind
 kindsOf s = kindsIn (stateOf s)
+
+-- the errors that the rules find, the newest first
+abbrev pub errorsOf : List ℕ → List TypingError
+errorsOf s = errorsIn (stateOf s)
+
+-- the states in which the walk of the file s raises its equations, the newest first
+unfoldable pub raisedOf : List ℕ → List State
+raisedOf s = let h = readingOf s in raisedBy (h .answer) (h .rows) (h .cells)

@@ -6,5 +6,6 @@ pub mod Answers
 pub mod Back
 pub mod Limits
 pub mod Demand
+pub mod Equations
 pub mod Claims
 pub mod Handing

@@ -4,16 +4,17 @@ use mathlib.Core.Logic.{_≢_, _↔_}
 use mathlib.Core.List.{List, [], _∷_, _++_, map}
 use mathlib.Core.Option.{Option, none, some}
 use mathlib.Core.Bool.{true, false}
-use Prim.Native.Nat.{ℕ, _<_}
+use Prim.Native.Nat.{ℕ, suc, _<_, _≤_}
 use lib.ListN.{length}
-use Rattle.theory.specs.Rules.{Shape, Kind, success, refused13, Mem, Pair, row, unify}
-use Rattle.theory.specs.Program.{Equation, St, Prog, madeOf, equalRows, firstEqual, sane, interned, solve, run}
+use Rattle.theory.specs.Rules.{Shape, Kind, success, refused13, Mem, Pair, row, leads, far, seek, unify}
+use Rattle.theory.specs.Program.{Equation, St, Prog, madeOf, equalRows, firstEqual, sane, interned, fuel, solve, run}
 use Rattle.theory.specs.Table.{table, more, outcome, stated, table-holds, more-holds, poolRows, poolLines, pool-holds}
 use Rattle.theory.specs.Basics.{All}
 use Rattle.theory.specs.Ways.{Way, Kinded, Plain, den, Agrees, Sided, Meets, Went, Failed}
-use Rattle.theory.specs.Graph.{Lower, Good}
+use Rattle.theory.specs.Graph.{Lower, Good, Sure}
 use Rattle.theory.specs.Sound.{Fair, success-exact, failed-none}
 use Rattle.theory.specs.Keep.{KeptBy, solve-kept}
+use Rattle.theory.specs.Enough.{solve-more, seek-more, leads-enough}
 use Rattle.theory.specs.Depth.{Functions, bounded, four-enough}
 use Rattle.theory.specs.Exist.{way, way-agrees, way-kinded}
 use Rattle.theory.specs.Demand.{Tables, track, demand-yes, demand-no}
@@ -44,6 +45,20 @@ agreeing-way rows kinds lower b good = (way rows kinds lower b good, way-kinded 
 -- whatever the rows: an equation's steps suffice, its bindings have no cycle, and the lists of bindings and marks keep their lengths
 pub equation-ends : (rows : List Shape) (kinds : List Kind) (m : Mem) (e g : ℕ) → Good rows kinds (m .binds) → e < length rows → g < length rows → KeptBy rows kinds m (solve rows kinds m e g)
 equation-ends = solve-kept
+
+-- more steps than it is given give the same,
+pub equation-more-steps : (rows : List Shape) (kinds : List Kind) (m : Mem) (e g k : ℕ) → Good rows kinds (m .binds) → e < length rows → g < length rows → fuel rows m ≤ k
+    → unify rows kinds k m e g ≡ solve rows kinds m e g
+equation-more-steps = solve-more
+
+-- and so it is with the search of step 3 along the bindings, which finds an end,
+pub search-more-steps : (rows : List Shape) (kinds : List Kind) (b : List (Option ℕ)) → Good rows kinds b → (v x k : ℕ) → length rows < k
+    → Sure (seek rows b v (suc (length rows)) x) × (seek rows b v k x ≡ seek rows b v (suc (length rows)) x)
+search-more-steps = seek-more
+
+-- and with that inside the type in which they end
+pub inside-more-steps : (rows : List Shape) (kinds : List Kind) (b : List (Option ℕ)) → Good rows kinds b → (v x k : ℕ) → far rows b v ≤ k → leads rows b v k x ≡ leads rows b v (far rows b v) x
+inside-more-steps = leads-enough
 
 -- functions of the table at most 4 deep in one another, of rows without variables and lambdas: the rules that enter at most four functions
 -- against lambdas in one another give the same result

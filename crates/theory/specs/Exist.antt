@@ -77,7 +77,7 @@ module _ (rows : List Shape) (kinds : List Kind) (lower : Lower rows) (b : List 
 
   value-eq : (x : ℕ) → value x ≡ denOf (wayOf value) value (row rows x)
   unfolding value
-  value-eq x = fixed valueAt (basic nil) (next rows b) (good .rank) (good .falls) (λ f g y h. local f g (row rows y) h) (suc (length rows)) x (omega (arith, good .top x))
+  value-eq x = fixed valueAt (next rows b) (good .rank) (good .falls) (λ f g y h. local f g (row rows y) h) (basic nil) (suc (length rows)) x (omega (arith, good .top x))
 
   -- the way that gives each variable the value of its binding, or the default
   pub way : Way

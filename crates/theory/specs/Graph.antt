@@ -21,12 +21,19 @@ Lower rows = (x : ℕ) → All (λ (y : ℕ). y < x) (kids (row rows x))
 -- ── functions by steps over a graph ──
 
 -- where the rank falls at each step, more steps than the rank change nothing
-module _ {A : Type 0} (step : (ℕ → A) → ℕ → A) (out : A) (succ : ℕ → List ℕ) (rank : ℕ → ℕ) (falls : (x : ℕ) → All (λ (y : ℕ). rank y < rank x) (succ x))
+module _ {A : Type 0} (step : (ℕ → A) → ℕ → A) (succ : ℕ → List ℕ) (rank : ℕ → ℕ) (falls : (x : ℕ) → All (λ (y : ℕ). rank y < rank x) (succ x))
     (local : (f g : ℕ → A) (x : ℕ) → All (λ (y : ℕ). f y ≡ g y) (succ x) → step f x ≡ step g x) where
+  -- nor does what is answered out of steps
+  pub alike : (a b : A) (n k x : ℕ) → rank x < n → rank x < k → iter step a n x ≡ iter step b k x
+  alike a b zero k x h l = absurd (omega arith)
+  alike a b (suc n) zero x h l = absurd (omega arith)
+  alike a b (suc n) (suc k) x h l =
+      local (iter step a n) (iter step b k) x
+      (all-map (λ (y : ℕ). rank y < rank x) (λ (y : ℕ). iter step a n y ≡ iter step b k y) (succ x) (λ y j. alike a b n k y (omega arith) (omega arith)) (falls x))
+
   -- one more step changes nothing
-  pub fixed : (n x : ℕ) → rank x < n → iter step out n x ≡ step (iter step out n) x
-  fixed zero x h = absurd (omega arith)
-  fixed (suc n) x h = local (iter step out n) (iter step out (suc n)) x (all-map (λ (y : ℕ). rank y < rank x) (λ (y : ℕ). iter step out n y ≡ iter step out (suc n) y) (succ x) (λ y k. fixed n y (omega arith)) (falls x))
+  pub fixed : (a : A) (n x : ℕ) → rank x < n → iter step a n x ≡ step (iter step a n) x
+  fixed a n x h = alike a a n (suc n) x h (omega arith)
 
 -- ── ranks ──
 
@@ -118,12 +125,19 @@ module _ (rows : List Shape) (kinds : List Kind) where
     abbrev pub hit : ℕ → Bool
     hit x = leads rows b v (far rows b v) x
 
+    -- one step asks of the rows that it leads to alone
+    leads-local : (f g : ℕ → Bool) (x : ℕ) → All (λ (y : ℕ). f y ≡ g y) (next rows b x) → leadsAt rows b v f x ≡ leadsAt rows b v g x
+    leads-local f g x h = ap (λ (c : Bool). isSame v (asVar (row rows x)) || c) (any-ext f g (next rows b x) h)
+
     -- a row leads to v exactly if it is v or one that it leads to does
     pub hit-fixed : (x : ℕ) → hit x ≡ leadsAt rows b v hit x
     unfolding leads
-    hit-fixed x =
-        fixed (leadsAt rows b v) false (next rows b) (good .rank) (good .falls)
-        (λ f g y h. ap (λ (c : Bool). isSame v (asVar (row rows y)) || c) (any-ext f g (next rows b y) h)) (far rows b v) x (omega (arith, good .top x))
+    hit-fixed x = fixed (leadsAt rows b v) (next rows b) (good .rank) (good .falls) leads-local false (far rows b v) x (omega (arith, good .top x))
+
+    -- any two numbers of steps above the rank say the same
+    pub leads-more : (n k x : ℕ) → good .rank x < n → good .rank x < k → leads rows b v n x ≡ leads rows b v k x
+    unfolding leads
+    leads-more = alike (leadsAt rows b v) (next rows b) (good .rank) (good .falls) leads-local false false
 
     -- what does not lead to v leads to nothing that does
     pub hit-back : (x : ℕ) → hit x ≡ false → All (λ (y : ℕ). hit y ≡ false) (next rows b x)

@@ -8,6 +8,7 @@ pub mod Meaning
 pub mod Choice
 pub mod Sound
 pub mod Keep
+pub mod Enough
 pub mod Exist
 pub mod Lift
 pub mod Demand

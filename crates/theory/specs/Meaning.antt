@@ -54,7 +54,7 @@ module _ (rows : List Shape) where
         outside (suc n) e = rw e
 
         by : Dec (x < length rows) → den rows w x ≡ denOf w (den rows w) (row rows x)
-        by (yes h) = fixed (denAt rows w) (basic nil) (λ y. kids (row rows y)) (λ y. y) lower (λ f g y k. denOf-ext w f g (row rows y) k) (length rows) x h
+        by (yes h) = fixed (denAt rows w) (λ y. kids (row rows y)) (λ y. y) lower (λ f g y k. denOf-ext w f g (row rows y) k) (basic nil) (length rows) x h
         by (no n) = let e : row rows x ≡ base nil = List·getD-eq-default rows (base nil) (omega arith) in rw e (outside (length rows) e)
 
     -- a base type becomes itself

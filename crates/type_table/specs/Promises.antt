@@ -17,11 +17,11 @@ use Rattle.type_table.specs.declared.Kind.{Kind}
 use Rattle.type_table.specs.declared.Bound.the-variants.{Open}
 use Rattle.type_table.specs.declared.Origin.{Origin}
 use Rattle.type_table.specs.Memory.{most-types, most-vars, cells, headAt, numberAt, outputAt, firstAt, countAt, inputsFrom, shapeOf, shapeAt, rowsOf, kindOf, kindsOf, numbered, originsOf, bindsOf, markAt, marksOf, memOf}
-use Rattle.type_table.specs.View.{type, kindIn, originIn, boundIn, viewIn, onwardIn, endIn}
+use Rattle.type_table.specs.View.{type, kindIn, originIn, boundIn, viewIn, onwardIn, endOr, endIn}
 use Rattle.type_table.specs.Made.{kindNumber, originNumber, marking, binding, drawIn, internIn, internOf, partsIn, pushIn, startIn}
 use Rattle.type_table.specs.Tables.{row-at, mark-at}
 use Rattle.type_table.specs.Sound.{fixed-types, Sound, stateOf, answered}
-use Rattle.type_table.specs.Reads.{rowMeant, originMeant, boundMeant, view-row, kind-read, origin-read, bound-read, follow-open}
+use Rattle.type_table.specs.Reads.{rowMeant, originMeant, boundMeant, view-row, kind-read, origin-read, bound-read, follow-open, follow-same}
 use Rattle.type_table.specs.Keeps.{laid-held, draw-state, draw-sound, array-state, array-sound, ref-state, ref-sound, fn-state, fn-sound, instance-state, instance-sound, push-state, push-sound, lambda-state, lambda-sound, function-state, function-sound, mark-state, mark-sound, bind-mem, bind-sound, start-state, start-sound}
 
 -- ── what reads; it changes nothing ──
@@ -55,6 +55,10 @@ module _ (m : List ℕ) (c : Counts) where
 -- follow: the row that it answers is bound to nothing
 pub follow-promise : {m : List ℕ} {c : Counts} → Sound m c → (x : ℕ) → onwardIn m c (type (endIn m c x)) ≡ Open
 follow-promise = follow-open
+
+-- and it is the end of the bindings, not the row that stands for too many of them: any other row d for that, and any more steps k, give the same
+pub follow-ends : {m : List ℕ} {c : Counts} → Sound m c → (x d k : ℕ) → c .types < k → endOr m c d k x ≡ endIn m c x
+follow-ends = follow-same
 
 -- ── what writes: its step of the theory ──
 

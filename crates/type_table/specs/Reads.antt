@@ -10,6 +10,7 @@ use lib.Dec.{eqb}
 use borrow.Author.Tests.{eqb-true, ne-eqb}
 use Rattle.theory.specs.Rules.{Width as Width·T, w8, w16, w32, w64, bool, nil, float, double, uint, int, inst, Shape, base, var, arr, ref, fn, fun, lam, err, div, row, kind, bound, optList, next}
 use Rattle.theory.specs.Basics.{All}
+use Rattle.theory.specs.Graph.{alike}
 use Rattle.type_table.specs.declared.Counts.{Counts}
 use Rattle.type_table.specs.declared.TypeId.{TypeId}
 use Rattle.type_table.specs.declared.VarId.{VarId}
@@ -23,7 +24,7 @@ use Rattle.type_table.specs.declared.Origin.the-variants.{Node, Literal}
 use Rattle.type_table.specs.declared.Bound.{Bound}
 use Rattle.type_table.specs.declared.Bound.the-variants.{To, Open}
 use Rattle.type_table.specs.Memory.{pick, varCell, headAt, numberAt, inputsFrom, widthOf, shapeOf, shapeAt, rowsOf, kindOf, kindAt, kindsOf, numbered, originAt, originsOf, bindingAt, bindsOf}
-use Rattle.type_table.specs.View.{type, variable, kindCode, kindIn, originCode, originIn, boundCode, boundIn, widthCode, viewOf, viewIn, onwardIn, endBy, endFrom, endIn}
+use Rattle.type_table.specs.View.{type, variable, kindCode, kindIn, originCode, originIn, boundCode, boundIn, widthCode, viewOf, viewIn, onwardIn, endBy, endOr, endFrom, endIn}
 use Rattle.type_table.specs.Made.{kindNumber}
 use Rattle.type_table.specs.Tables.{row-at, kind-at, origin-at, bound-at, length-rows}
 use Rattle.type_table.specs.Sound.{Sound}
@@ -159,7 +160,23 @@ module _ (m : List ℕ) (c : Counts) where
       by ih Open e k = e
       by ih (To y) e k = ih (y .0) (omega arith)
 
+  -- the end of a row's bindings asks of the row that it is bound to alone
+  end-local : (f g : ℕ → ℕ) (x : ℕ) → All (λ (y : ℕ). f y ≡ g y) (next (rowsOf m (c .types)) (bindsOf m (c .vars)) x) → endBy f x (onwardIn m c (type x)) ≡ endBy g x (onwardIn m c (type x))
+  end-local f g x h = by (onwardIn m c (type x)) (onward-next (λ (y : ℕ). f y ≡ g y) x h)
+    where
+      by : (r : Bound) → Onward (λ (y : ℕ). f y ≡ g y) r → endBy f x r ≡ endBy g x r
+      by Open k = refl
+      by (To y) k = k
+
 -- the row that `follow` answers is bound to nothing
 pub follow-open : {m : List ℕ} {c : Counts} → Sound m c → (x : ℕ) → onwardIn m c (type (endIn m c x)) ≡ Open
 unfolding endIn
 follow-open {m} {c} sound x = end-open m c (sound .good .rank) (sound .good .falls) (c .types + 1) x (omega (arith, sound .good .top x, length-rows m (c .types)))
+
+-- and the steps never run out: whatever row stands for that, and with any more steps, it answers the same
+pub follow-same : {m : List ℕ} {c : Counts} → Sound m c → (x d k : ℕ) → c .types < k → endOr m c d k x ≡ endIn m c x
+unfolding endIn
+follow-same {m} {c} sound x d k h =
+    let l = length-rows m (c .types) in
+    let t = sound .good .top x in
+    alike (λ (f : ℕ → ℕ) (y : ℕ). endBy f y (onwardIn m c (type y))) (next (rowsOf m (c .types)) (bindsOf m (c .vars))) (sound .good .rank) (sound .good .falls) (end-local m c) d 12 k (c .types + 1) x (omega arith) (omega arith)

@@ -99,9 +99,13 @@ abbrev pub endBy : (ℕ → ℕ) → ℕ → Bound → ℕ
 endBy f x (To y) = f (y .0)
 endBy f x Open = x
 
--- the end of a row's bindings, followed variable by variable, at most n of them; row 12 (err) where there is none
+-- the end of a row's bindings, followed variable by variable, at most n of them; row d where they are more
+abbrev pub endOr : List ℕ → Counts → ℕ → ℕ → ℕ → ℕ
+endOr m c d n x = iter (λ (f : ℕ → ℕ) (y : ℕ). endBy f y (onwardIn m c (type y))) d n x
+
+-- row 12 (err) where they are more
 abbrev pub endFrom : List ℕ → Counts → ℕ → ℕ → ℕ
-endFrom m c n x = iter (λ (f : ℕ → ℕ) (y : ℕ). endBy f y (onwardIn m c (type y))) 12 n x
+endFrom m c n x = endOr m c 12 n x
 
 -- the same, of as many steps as there are rows, and one more
 unfoldable pub endIn : List ℕ → Counts → ℕ → ℕ

@@ -21,9 +21,9 @@ use Rattle.theory.specs.Claims as rules
 use Rattle.type_table.specs.declared.Counts.{Counts}
 use Rattle.type_table.specs.declared.TypeId.{TypeId}
 use Rattle.type_table.specs.declared.Bound.the-variants.{Open}
-use Rattle.type_table.specs.View.{type, onwardIn, endIn}
+use Rattle.type_table.specs.View.{type, onwardIn, endOr, endIn}
 use Rattle.type_table.specs.Sound.{Sound, stateOf}
-use Rattle.type_table.specs.Promises.{follow-promise}
+use Rattle.type_table.specs.Promises.{follow-promise, follow-ends}
 use Rattle.unify.specs.declared.Answer.{Answer}
 use Rattle.unify.specs.declared.Answer.the-variants.{Success}
 use Rattle.search.specs.Search.{bindsIn}
@@ -73,6 +73,10 @@ a-way-agrees = meaning.agreeing-way
 -- the end is no bound variable
 pub end-is-open : (m : List ℕ) (c : Counts) → Sound m c → (x : ℕ) → onwardIn m c (type (endIn m c x)) ≡ Open
 end-is-open m c sound = follow-promise sound
+
+-- and it is reached: whatever row d stands for bindings without an end, and with any more steps k, it is the same
+pub end-is-reached : (m : List ℕ) (c : Counts) → Sound m c → (x d k : ℕ) → c .types < k → endOr m c d k x ≡ endIn m c x
+end-is-reached m c sound = follow-ends sound
 
 -- a row and its end become the same type under every way that agrees with the bindings
 pub end-means-same : (m : List ℕ) (c : Counts) → Sound m c → (f : Way) → Agrees (rowsIn m c) (bindsIn m c) f → (x : ℕ) → den (rowsIn m c) f (endIn m c x) ≡ den (rowsIn m c) f x
