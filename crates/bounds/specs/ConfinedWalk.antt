@@ -55,7 +55,7 @@ module _ {N : Counts} {W : Numbers} {b : Body} (K : Known N b W) (R : Refers N b
           (λ x u. then-confined _ (each-confined 1 (t .count - 1) _ (λ i k. then-confined _ (visit _ (I i (omega arith))) (λ y v. equate-on-confined K n x y _ h u v))) (λ z q. array-of-confined x u))
 
       by : (q : Bool) → eqb (t .count) 0 ≡ q → Confined N W (W .type) (cond q (rule.empty-list n) (_>>=_ (E (item (b .cells) t 0)) (λ x. rest b E n t x)))
-      by true p = empty-list-confined K n
+      by true p = empty-list-confined K n h
       by false p = full (omega (arith, eqb-false (t .count) 0 p))
 
   -- an index of an array
@@ -67,7 +67,7 @@ module _ {N : Counts} {W : Numbers} {b : Body} (K : Known N b W) (R : Refers N b
   -- a let
   local-confined : (n : ℕ) (t : MaybeType) (e : MaybeNode) → n < N .nodes → TypeBy (W .type) t → MaybeLower (N .nodes) e → Confined N W Any (typeck-local b E n t e)
   unfolding typeck-local
-  local-confined n t node.Absent h u m = let-without-init-confined K n t u
+  local-confined n t node.Absent h u m = let-without-init-confined K n t h u
   local-confined n t (node.Of e) h u m = then-confined _ (visit (e .0) m) (λ y v. let-with-init-confined K n t y h u v)
 
   -- a statement
@@ -133,8 +133,8 @@ module _ {N : Counts} {W : Numbers} {b : Body} (K : Known N b W) (R : Refers N b
   rule-confined : (n : ℕ) (m : Node) → n < N .nodes → NodeLower N (b .cells) m → Confined N W (W .type) (rule-of b E n m)
   unfolding typeck-expr-bin-op typeck-assign typeck-op-assign typeck-expr-un-op typeck-expr-field typeck-expr-index typeck-expr-if typeck-branches block-at typeck-loop typeck-call typeck-expr-meth-call typeck-lambda lambda-body rule.assign rule.op-assign
   rule-confined n form.Bool h c = done-confined _ (K .type 1 (omega arith))
-  rule-confined n form.Int h c = new-infer-var-confined integer none
-  rule-confined n form.Float h c = new-infer-var-confined floating none
+  rule-confined n form.Int h c = new-infer-var-confined integer none refl
+  rule-confined n form.Float h c = new-infer-var-confined floating none refl
   rule-confined n form.Str h c = refuse-10-confined n h
   rule-confined n (form.Bin o l r) h c = then-confined _ (two-confined (l .0) (r .0) (c .0) (c .1)) (λ t q. bin-op-confined K n o _ _ _ _ h (q .0) (q .1))
   rule-confined n (form.Un o e) h c = then-confined _ (visit (e .0) c) (λ x u. un-op-confined K o (e .0) x u)
@@ -158,7 +158,7 @@ module _ {N : Counts} {W : Numbers} {b : Body} (K : Known N b W) (R : Refers N b
   rule-confined n (form.Param t) h c = done-confined _ (K .type 12 (omega arith))
   rule-confined n (form.Lambda o e t) h c =
       then-confined _ (lambda-params-confined K R t (c .2))
-      (λ z q. then-confined _ (lambda-output-confined K n o (declared-known K o (c .0)))
+      (λ z q. then-confined _ (lambda-output-confined K n o h (declared-known K o (c .0)))
       (λ x u. then-confined _ (visit (e .0) (c .1)) (λ y v. lambda-rule-confined K (b .cells) n (e .0) x y t h u v)))
   rule-confined n (form.Path r k t) h c = path-confined K R n r k t h (c .0) (c .1)
 
