@@ -185,7 +185,7 @@ unfolding rule.lambda-output
 lambda-output-adds n t = then-nothing _ (new-infer-var-adds regular (drawn-by n)) (λ v. done-adds _)
 
 -- a param
-lambda-param-adds : (n : ℕ) (t : MaybeType) → Adds one-var (rule.lambda-param n t)
+pub lambda-param-adds : (n : ℕ) (t : MaybeType) → Adds one-var (rule.lambda-param n t)
 lambda-param-adds n (type.Of t) = adds-any (set-node-type-adds n (t .0))
 lambda-param-adds n type.Absent = then-nothing _ (new-infer-var-adds regular (drawn-by n)) (λ v. set-node-type-adds n v)
 

@@ -179,7 +179,7 @@ module _ {N : Counts} {W : Numbers} {b : Body} (K : Known N b W) where
   param-type-confined n type.Absent u = done-confined tt tt
 
   -- each P of `fn`
-  params-confined : Refers N b → (t : Items) → ItemsLower N (b .cells) t → Confined N W Any (params (b .rows) (b .cells) t)
+  pub params-confined : Refers N b → (t : Items) → ItemsLower N (b .cells) t → Confined N W Any (params (b .rows) (b .cells) t)
   unfolding params param
   params-confined R t I =
       each-confined 0 (t .count) _
@@ -221,7 +221,7 @@ module _ {N : Counts} {W : Numbers} {b : Body} (K : Known N b W) where
   settled-confined y (some v) u = then-confined _ (drawn-as-confined v) (λ k q. open-type-confined (k .1) (k .0))
 
   -- a variable
-  resolve-variable-confined : (x : ℕ) → W .type x → Confined N W (W .type) (resolve-variable x)
+  pub resolve-variable-confined : (x : ℕ) → W .type x → Confined N W (W .type) (resolve-variable x)
   unfolding resolve-variable
   resolve-variable-confined x u = then-confined _ (end-of-confined x u) (λ y v. then-confined _ (shape-of-confined y) (λ s q. settled-confined y (asVar s) v))
 
@@ -247,7 +247,7 @@ module _ {N : Counts} {W : Numbers} {b : Body} (K : Known N b W) where
   final-type-confined n (some x) u = then-confined _ (then-confined _ (shape-of-confined x) (λ s p. resolve-shape-confined x s (asVar s) u p)) (λ y v. set-final-confined n y)
 
   -- the final types of k nodes
-  resolve-nodes-confined : (k : ℕ) → Confined N W Any (resolve-nodes k)
+  pub resolve-nodes-confined : (k : ℕ) → Confined N W Any (resolve-nodes k)
   unfolding resolve-nodes resolve-node
   resolve-nodes-confined k = each-confined 0 k _ (λ i l. then-confined _ (node-type-confined i) (λ t u. final-type-confined i t u))
 
@@ -255,7 +255,7 @@ module _ {N : Counts} {W : Numbers} {b : Body} (K : Known N b W) where
 
 module _ (n : Counts) (rows cells : List ℕ) (w : WellFormed n rows cells) {W : Numbers} (K : Known n (bodyWith n rows cells) W) where
   -- BODY and its result
-  typeck-confined : Confined n W Any (typeck (bodyWith n rows cells) (fnLine rows cells .body .0))
+  pub typeck-confined : Confined n W Any (typeck (bodyWith n rows cells) (fnLine rows cells .body .0))
   unfolding typeck result fnLine
   typeck-confined =
       let h = body-lower n rows cells w in

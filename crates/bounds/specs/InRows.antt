@@ -267,6 +267,10 @@ module _ (n : Counts) (rows cells : List ℕ) (w : WellFormed n rows cells) wher
         own = record { output = declared-below _ (fn-output n rows cells w); raw = blank-raw T 1024 };
       }
 
+  -- so the invariant of demand 3 holds there
+  pub declared-track : Track (declared-state n rows cells)
+  declared-track = start-stands .track
+
   -- each declared type is a type, wherever each row is
   known : (T : ℕ → Type 0) → ((x : ℕ) → x < length (declared rows cells (n .types)) → T x) → Known n (bodyWith n rows cells) (standing n T)
   known T h =

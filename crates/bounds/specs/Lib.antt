@@ -18,4 +18,9 @@ pub mod Answered
 pub mod Refusals
 pub mod Raised
 pub mod Demand
+pub mod Defaults
+pub mod Origins
+pub mod Alike
+pub mod WalkAlike
+pub mod NeverMet
 pub mod Claims
