@@ -1,14 +1,15 @@
 -- What a program adds to the tables at most, and how that adds up over its parts. Assumes nothing.
-use mathlib.Core.Path.{_≡_, refl}
+use mathlib.Core.Path.{_≡_, refl, _∙_}
 use mathlib.Core.List.{[], _∷_}
 use mathlib.Core.Option.{Option, none, some}
 use mathlib.Core.Bool.{Bool, true, false}
 use Prim.Native.Nat.{ℕ, _+_, _≤_}
 use native.Mathlib.Omega.{arith}
 use borrow.Author.Needs.{needs}
-use lib.ListN.{length, length-append}
+use lib.ListN.{length, length-append, getD}
 use Rattle.theory.specs.Rules.{Shape, var, Kind, Out, mismatch, Res}
 use Rattle.theory.specs.Program.{firstEqual, sane, drawn, appended, emitted, written, refused, marking, raised, pooled, internIf, interned, react, react-cases, run, _>>=_, goOn, run-bind}
+use Rattle.nodes.specs.Nodes.{isSome}
 use Rattle.record.specs.declared.TypingError.{TypingError}
 use Rattle.record.specs.Own.{Own}
 use Rattle.record.specs.Steps.{State, Walk}
@@ -43,13 +44,19 @@ pub record Within (a b : Cost) : Type 0 where
   pub errors : a .errors ≤ b .errors
   pub equations : a .equations ≤ b .equations
 
--- the tables of t are those of s and at most c more
+-- as many nodes have a place for their RAW in p as in o, and a node that has a RAW in o has one in p
+pub record Kept (o p : Own) : Type 0 where
+  pub places : length (p .raw) ≡ length (o .raw)
+  pub typed : (i : ℕ) → isSome (getD (o .raw) i none) ≡ true → isSome (getD (p .raw) i none) ≡ true
+
+-- the tables of t are those of s and at most c more, and no RAW is lost
 pub record Larger (c : Cost) (s t : State) : Type 0 where
   pub vars : length (t .kinds) ≤ length (s .kinds) + c .vars
   pub rows : length (t .rows) ≤ length (s .rows) + c .rows
   pub inputs : inputTotal (t .rows) ≤ inputTotal (s .rows) + c .inputs
   pub errors : length (t .errs) ≤ length (s .errs) + c .errors
   pub equations : length (t .log) ≤ length (s .log) + c .equations
+  pub kept : Kept (s .own) (t .own)
 
 -- the program p adds at most c to the tables
 pub record Adds {A : Type 0} (c : Cost) (p : Walk A) : Type 0 where
@@ -61,9 +68,17 @@ pub record AddsBy {A : Type 0} (c : Option A → Cost) (p : Walk A) : Type 0 whe
 
 -- ── states ──
 
+-- the same RAW
+pub kept-same : {o p : Own} → p .raw ≡ o .raw → Kept o p
+kept-same e = record { places = rw e; typed = λ i h. rw e h }
+
+-- from one to another and on to a third
+kept-trans : {o p q : Own} → Kept o p → Kept p q → Kept o q
+kept-trans a b = record { places = b .places ∙ a .places; typed = λ i h. b .typed i (a .typed i h) }
+
 -- the same state
 pub same-larger : (s : State) → Larger nothing s s
-same-larger s = record { vars = omega arith; rows = omega arith; inputs = omega arith; errors = omega arith; equations = omega arith }
+same-larger s = record { vars = omega arith; rows = omega arith; inputs = omega arith; errors = omega arith; equations = omega arith; kept = kept-same refl }
 
 -- from one state to another and on to a third
 pub larger-trans : {a b : Cost} {s t u : State} → Larger a s t → Larger b t u → Larger (both a b) s u
@@ -73,6 +88,7 @@ larger-trans p q = record {
   inputs = omega (arith, p .inputs, q .inputs);
   errors = omega (arith, p .errors, q .errors);
   equations = omega (arith, p .equations, q .equations);
+  kept = kept-trans (p .kept) (q .kept);
 }
 
 -- a cost that is no less
@@ -83,6 +99,7 @@ larger-within w p = record {
   inputs = omega (arith, p .inputs, w .inputs);
   errors = omega (arith, p .errors, w .errors);
   equations = omega (arith, p .equations, w .equations);
+  kept = p .kept;
 }
 
 -- a drawn variable is one more, with its row
@@ -94,6 +111,7 @@ drawn-larger k o s = record {
   inputs = omega (arith, total-append (s .rows) (var (length (s .mem .binds)) ∷ []));
   errors = omega arith;
   equations = omega arith;
+  kept = kept-same refl;
 }
 
 -- a new row has its inputs
@@ -105,6 +123,7 @@ appended-larger t s = record {
   inputs = omega (arith, total-append (s .rows) (t ∷ []));
   errors = omega arith;
   equations = omega arith;
+  kept = kept-same refl;
 }
 
 -- a row that is found is none more
@@ -125,27 +144,27 @@ interned-larger t s = intern-if-larger (sane (length (s .rows)) t) t s
 -- one error more
 pub emitted-larger : (e : TypingError) (s : State) → Larger (cost 0 0 0 1 0) s (emitted e s)
 unfolding emitted
-emitted-larger e s = record { vars = omega arith; rows = omega arith; inputs = omega arith; errors = omega arith; equations = omega arith }
+emitted-larger e s = record { vars = omega arith; rows = omega arith; inputs = omega arith; errors = omega arith; equations = omega arith; kept = kept-same refl }
 
 -- the walk's own is not in these tables
-pub written-larger : (o : Own) (s : State) → Larger nothing s (written o s)
+pub written-larger : (o : Own) (s : State) → Kept (s .own) o → Larger nothing s (written o s)
 unfolding written
-written-larger o s = record { vars = omega arith; rows = omega arith; inputs = omega arith; errors = omega arith; equations = omega arith }
+written-larger o s k = record { vars = omega arith; rows = omega arith; inputs = omega arith; errors = omega arith; equations = omega arith; kept = k }
 
 -- nor is a refusal
 pub refused-larger : (n p : ℕ) (s : State) → Larger nothing s (refused n p s)
 unfolding refused
-refused-larger n p s = record { vars = omega arith; rows = omega arith; inputs = omega arith; errors = omega arith; equations = omega arith }
+refused-larger n p s = record { vars = omega arith; rows = omega arith; inputs = omega arith; errors = omega arith; equations = omega arith; kept = kept-same refl }
 
 -- nor a mark
 pub marking-larger : (v : ℕ) (s : State) → Larger nothing s (marking v s)
 unfolding marking
-marking-larger v s = record { vars = omega arith; rows = omega arith; inputs = omega arith; errors = omega arith; equations = omega arith }
+marking-larger v s = record { vars = omega arith; rows = omega arith; inputs = omega arith; errors = omega arith; equations = omega arith; kept = kept-same refl }
 
 -- one equation more
 raised-larger : (p e g : ℕ) (r : Res) (s : State) → Larger (cost 0 0 0 0 1) s (raised p e g r s)
 unfolding raised
-raised-larger p e g r s = record { vars = omega arith; rows = omega arith; inputs = omega arith; errors = omega arith; equations = omega arith }
+raised-larger p e g r s = record { vars = omega arith; rows = omega arith; inputs = omega arith; errors = omega arith; equations = omega arith; kept = kept-same refl }
 
 -- an equation that is answered emits at most one error
 react-larger : (p : ℕ) (o : Out) (f : Out → TypingError) (s : State) → Larger (cost 0 0 0 1 0) s ((react p o f (λ c t. (some c, t)) s) .1)

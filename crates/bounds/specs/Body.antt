@@ -76,17 +76,17 @@ module _ (n : Counts) (rows cells : List ℕ) (w : WellFormed n rows cells) wher
   param-type-adds p type.Absent = done-adds tt
 
   -- each P of `fn`
-  params-adds : (t : Items) → Adds nothing (params rows cells t)
+  pub params-adds : (t : Items) → Adds nothing (params rows cells t)
   unfolding params param
   params-adds t = adds-within (search needs) (each-same nothing 0 (t .count) _ (λ i l. param-type-adds (item cells t i) (declaredAt rows cells (item cells t i))))
 
   -- the equation of the result
-  result-adds : (p y : ℕ) → Adds one-equation (result p y)
+  pub result-adds : (p y : ℕ) → Adds one-equation (result p y)
   unfolding result
   result-adds p y = nothing-then _ output-adds (λ x. equate-on-adds p x y _)
 
   -- BODY and its result
-  typeck-adds : Adds (child (n .nodes)) (typeck (bodyWith n rows cells) (fnLine rows cells .body .0))
+  pub typeck-adds : Adds (child (n .nodes)) (typeck (bodyWith n rows cells) (fnLine rows cells .body .0))
   unfolding typeck fnLine
   typeck-adds =
       let lower = body-lower n rows cells w in
@@ -153,7 +153,7 @@ final-type-adds p none = adds-any (done-adds tt)
 final-type-adds p (some x) = then-nothing _ (resolve-type-variable-adds x) (λ y. set-final-adds p y)
 
 -- the final types of k nodes
-resolve-nodes-adds : (k : ℕ) → Adds (times k (cost 0 1 0 1 0)) (resolve-nodes k)
+pub resolve-nodes-adds : (k : ℕ) → Adds (times k (cost 0 1 0 1 0)) (resolve-nodes k)
 unfolding resolve-nodes resolve-node
 resolve-nodes-adds k = each-same (cost 0 1 0 1 0) 0 k _ (λ i l. nothing-then _ (node-type-adds i) (λ t. final-type-adds i t))
 

@@ -24,7 +24,7 @@ use Rattle.record.specs.declared.ErrorKind.the-variants as error·K
 use Rattle.record.specs.Own.{marked}
 use Rattle.record.specs.Steps.{change, set-extra, all-types, drawn-by, error}
 use Rattle.rules.specs.Rules as rule
-use Rattle.bounds.specs.Adds.{Cost, cost, nothing, Adds, AddsBy, larger-within, same-larger, emitted-larger, written-larger, adds-within, adds-any, then, nothing-then, then-nothing}
+use Rattle.bounds.specs.Adds.{Cost, cost, nothing, Adds, AddsBy, larger-within, kept-same, same-larger, emitted-larger, written-larger, adds-within, adds-any, then, nothing-then, then-nothing}
 use Rattle.bounds.specs.Steps.{one-var, one-row, one-error, one-equation, times, done-adds, refuse-adds, cond-adds, set-node-type-adds, set-extra-adds, node-type-adds, shape-of-adds, all-types-adds, new-infer-var-adds, fn-def-adds, instance-adds, make-lambda-adds, error-adds, each-same}
 use Rattle.bounds.specs.Rules.{equate-on-adds, error-then}
 
@@ -159,8 +159,8 @@ sought-cost (some (some d)) = nothing
 
 -- a method that was found is no error
 method-or-error-adds : (n e x name : ℕ) (d : MaybeDef) → AddsBy sought-cost (rule.method-or-error n e x name d)
-unfolding run _>>=_ set-extra change error
-method-or-error-adds n e x name (def.Of d) = record { larger = λ s. written-larger (marked n (extra.Method d) (s .own)) s }
+unfolding run _>>=_ set-extra change error marked
+method-or-error-adds n e x name (def.Of d) = record { larger = λ s. written-larger (marked n (extra.Method d) (s .own)) s (kept-same refl) }
 method-or-error-adds n e x name def.Absent = record { larger = λ s. emitted-larger (rule.own-error error·K.MethodNotFound (rule.at e) x name) s }
 
 -- a method that is sought
@@ -185,7 +185,7 @@ unfolding rule.lambda-output
 lambda-output-adds n t = then-nothing _ (new-infer-var-adds regular (drawn-by n)) (λ v. done-adds _)
 
 -- a param
-lambda-param-adds : (n : ℕ) (t : MaybeType) → Adds one-var (rule.lambda-param n t)
+pub lambda-param-adds : (n : ℕ) (t : MaybeType) → Adds one-var (rule.lambda-param n t)
 lambda-param-adds n (type.Of t) = adds-any (set-node-type-adds n (t .0))
 lambda-param-adds n type.Absent = then-nothing _ (new-infer-var-adds regular (drawn-by n)) (λ v. set-node-type-adds n v)
 

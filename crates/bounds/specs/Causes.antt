@@ -119,7 +119,7 @@ run-caused : {A : Type 0} (N : Counts) (p : Walk A) → IsConfined N any-numbers
 unfolding run IsConfined InRows drawn emitted written refused marking
 run-caused N (done a) c s i h = h
 run-caused N (refuse k n) c s i h = h
-run-caused N (draw k o f) c s i h = run-caused N (f (length (s .rows))) (c (length (s .rows)) tt) (drawn k o s) i h
+run-caused N (draw k o f) c s i h = run-caused N (f (length (s .rows))) (c .1 (length (s .rows)) tt) (drawn k o s) i h
 run-caused N (intern t f) c s i h = run-caused N (f ((interned t s) .0)) (c .3 ((interned t s) .0) tt) ((interned t s) .1) (i .1) (rw (interned-errs t s, interned-log t s) h)
 run-caused N (equate n x y e f) c s i h =
     let a = clip (length (s .rows)) x in

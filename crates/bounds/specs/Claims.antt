@@ -1,6 +1,7 @@
 -- What is claimed of the walk over a well-formed body, one citation each: the limits of document 01 are never exceeded, its levels never run out, each type
 -- line has its number, functions stand at most 4 deep in one another, all types and variables are known, each number refers to what is there; then the promise of
--- `type_body`, what its answer says of the refusal, which number and place that has, at which nodes equations are raised, which of them was refused, which errors are theirs, that they ended, and demand 3 for them.
+-- `type_body`, what its answer says of the refusal, which number and place that has, at which nodes equations are raised, which of them was refused, which errors are theirs, that they ended, and demand 3 for them;
+-- last, that no default of the definitions is met.
 -- The body is what `type-body` of crate `resolve` says, over the tables that `read_body` leaves on 0 (`WellFormed` of crate `well_formed`), from the
 -- fixed types and no node typed; `Fits` of crate `record` says that no table of a state is over its limit.
 use mathlib.Core.Path.{_≡_, refl}
@@ -47,6 +48,9 @@ use Rattle.bounds.specs.Instances.{WayOf, body-way}
 use Rattle.bounds.specs.Refers.{Refers, refers}
 use Rattle.bounds.specs.InRows.{InRows, declared-state, body-in-rows}
 use Rattle.bounds.specs.Demand.{end, without-error, first-failure}
+use Rattle.bounds.specs.Defaults.{Defaults, other-body}
+use Rattle.bounds.specs.Origins.{OriginsOf}
+use Rattle.bounds.specs.NeverMet.{never-met, body-origins}
 use Rattle.bounds.specs.Nesting.{AtEquations, line-row, four-deep, body-rows, body-equations}
 
 -- the state before the walk over a body whose result has the type o
@@ -271,3 +275,15 @@ module _ (n : Counts) (rows cells : List ℕ) where
   pub demand-3-first-failure : (later before : List Equation) (q : Equation) → end n rows cells .log ≡ later ++ q ∷ before → Failed (q .answer) → All Went before → All (Sided (end n rows cells .rows)) (q ∷ before)
       → (v : Way) → Kinded (end n rows cells .kinds) v → All (Meets (end n rows cells .rows) v) (q ∷ before) → ⊥
   demand-3-first-failure = first-failure n rows cells
+
+-- ── 9. no default is met ──
+
+module _ (n : Counts) (rows cells : List ℕ) (w : WellFormed n rows cells) where
+  -- where the definitions answer something only to be total (levels that run out, a `let` or a `param` as an expression, a BLOCK that is none, a lambda's param without a
+  -- type, an open Regular variable without an origin, bindings that do not end), any other answers D give the same: a body runs to the same answer and state
+  pub defaults-never-met : (D : Defaults) → run (other-body D n rows cells) (first-state rows cells) ≡ run (type-body n rows cells) (first-state rows cells)
+  defaults-never-met = never-met n rows cells w
+
+  -- each Regular variable was drawn by a node of the file, and that of a literal by none: so P of InferFail is a node that drew the variable
+  pub origins : OriginsOf (n .nodes) (last-state n rows cells)
+  origins = body-origins n rows cells w

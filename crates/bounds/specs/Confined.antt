@@ -9,7 +9,7 @@ use native.Mathlib.Omega.{arith}
 use borrow.Author.Tests.{ltb-true}
 use lib.Dec.{eqb, ltb, leb}
 use lib.ListN.{length, getD, set}
-use Rattle.theory.specs.Rules.{Base, bool, nil, float, double, uint, int, inst, Shape, base, var, arr, ref, fn, fun, lam, err, div, Kind, regular, mismatch, asVar, head, error-head, row, bound}
+use Rattle.theory.specs.Rules.{Base, bool, nil, float, double, uint, int, inst, Shape, base, var, arr, ref, fn, fun, lam, err, div, Kind, mismatch, regular, integer, floating, asVar, head, error-head, row, bound}
 use Rattle.theory.specs.Program.{done, refuse, draw, intern, equate, emit, mark, read, write, _>>=_}
 use Rattle.theory.specs.Basics.{All}
 use Rattle.refs.specs.declared.Counts.{Counts}
@@ -109,6 +109,12 @@ pub record Placed (m k p : ℕ) : Type 0 where
   pub most : k ≤ 13
   pub lower : p < m
 
+-- the origin of a drawn variable: of a Regular one, that of one of the first m nodes; of a literal's, none
+abbrev pub Origin : ℕ → Kind → Option ℕ → Type 0
+Origin m regular o = (n : ℕ) × (n < m) × (o ≡ drawn-by n)
+Origin m integer o = o ≡ none
+Origin m floating o = o ≡ none
+
 -- the error of an equation that failed: its CAUSE is 1, and it names the sides x, expected, and y, got
 pub record Names (x y : ℕ) (e : TypingError) : Type 0 where
   pub cause : e .cause ≡ 1
@@ -121,7 +127,7 @@ module _ (N : Counts) (W : Numbers) {A : Type 0} (Q : A → Type 0) where
   unfoldable pub IsConfined : Walk A → Type 0
   IsConfined (done a) = Q a
   IsConfined (refuse k n) = Placed (N .nodes) k n × (k ≤ 11)
-  IsConfined (draw k o f) = (r : ℕ) → W .type r → IsConfined (f r)
+  IsConfined (draw k o f) = Origin (N .nodes) k o × ((r : ℕ) → W .type r → IsConfined (f r))
   IsConfined (intern t f) = (isMade t ≡ true) × (asVar t ≡ none) × Parts W t × ((r : ℕ) → W .type r → IsConfined (f r))
   IsConfined (equate n x y e f) = Placed (N .nodes) 12 n × Placed (N .nodes) 13 n × W .type x × W .type y × ((c : Bool) → IsConfined (f c)) × Names x y (e mismatch)
   IsConfined (emit e p) = IsConfined p × (e .cause ≡ 0)
@@ -143,7 +149,7 @@ module _ {A B : Type 0} where
   unfolding IsConfined _>>=_
   bind-confined N W Q R (done a) g P K = K a P
   bind-confined N W Q R (refuse k n) g P K = P
-  bind-confined N W Q R (draw k o f) g P K = λ r v. bind-confined N W Q R (f r) g (P r v) K
+  bind-confined N W Q R (draw k o f) g P K = (P .0, λ r v. bind-confined N W Q R (f r) g (P .1 r v) K)
   bind-confined N W Q R (intern t f) g P K = (P .0, P .1, P .2, λ r v. bind-confined N W Q R (f r) g (P .3 r v) K)
   bind-confined N W Q R (equate n x y e f) g P K = (P .0, P .1, P .2, P .3, λ c. bind-confined N W Q R (f c) g (P .4 c) K, P .5)
   bind-confined N W Q R (emit e p) g P K = (bind-confined N W Q R p g (P .0) K, P .1)
@@ -326,9 +332,9 @@ module _ {N : Counts} {W : Numbers} where
   mark-var-confined v = record { by = tt }
 
   -- a variable
-  pub new-infer-var-confined : (k : Kind) (o : Option ℕ) → Confined N W (W .type) (new-infer-var k o)
+  pub new-infer-var-confined : (k : Kind) (o : Option ℕ) → Origin (N .nodes) k o → Confined N W (W .type) (new-infer-var k o)
   unfolding IsConfined new-infer-var
-  new-infer-var-confined k o = record { by = λ r v. v }
+  new-infer-var-confined k o h = record { by = (h, λ r v. v) }
 
   -- a made type
   intern-confined : (t : Shape) → isMade t ≡ true → asVar t ≡ none → Parts W t → Confined N W (W .type) (intern t done)
@@ -457,9 +463,9 @@ module _ {N : Counts} {W : Numbers} where
     un-op-confined un.Not e x v = then-confined _ (shape-of-confined x) (λ s p. logical-not-confined e x s v)
 
     -- an empty list
-    pub empty-list-confined : (n : ℕ) → Confined N W (W .type) (rule.empty-list n)
+    pub empty-list-confined : (n : ℕ) → n < N .nodes → Confined N W (W .type) (rule.empty-list n)
     unfolding rule.empty-list
-    empty-list-confined n = then-confined _ (new-infer-var-confined regular (drawn-by n)) (λ v q. array-of-confined v q)
+    empty-list-confined n h = then-confined _ (new-infer-var-confined regular (drawn-by n) (n, h, refl)) (λ v q. array-of-confined v q)
 
     -- an element, or an error
     element-or-error-confined : (n x : ℕ) (o : Option ℕ) → Maybe (W .type) o → Confined N W (Maybe (W .type)) (rule.element-or-error n x o)
@@ -487,9 +493,9 @@ module _ {N : Counts} {W : Numbers} where
     local-type-confined n x t v = then-confined _ (set-extra-confined n _) (λ u q. set-node-type-confined n t v)
 
     -- a let without init
-    pub let-without-init-confined : (n : ℕ) (t : MaybeType) → TypeBy (W .type) t → Confined N W Any (rule.let-without-init n t)
-    let-without-init-confined n (type.Of t) h = local-type-confined n (t .0) (t .0) h
-    let-without-init-confined n type.Absent h = then-confined _ (new-infer-var-confined regular (drawn-by n)) (λ v q. set-node-type-confined n v q)
+    pub let-without-init-confined : (n : ℕ) (t : MaybeType) → n < N .nodes → TypeBy (W .type) t → Confined N W Any (rule.let-without-init n t)
+    let-without-init-confined n (type.Of t) l h = local-type-confined n (t .0) (t .0) h
+    let-without-init-confined n type.Absent l h = then-confined _ (new-infer-var-confined regular (drawn-by n) (n, l, refl)) (λ v q. set-node-type-confined n v q)
 
     -- a let with init
     pub let-with-init-confined : (n : ℕ) (t : MaybeType) (y : ℕ) → n < N .nodes → TypeBy (W .type) t → W .type y → Confined N W Any (rule.let-with-init n t y)
@@ -532,18 +538,18 @@ module _ {N : Counts} {W : Numbers} where
     no-instance-confined e x s = cond-confined (eqb (head s) error-head) (done-confined _ (K .type 12 (omega arith))) (error-then _ _ _ _ _ (K .type 12 (omega arith)))
 
     -- the output of a lambda
-    pub lambda-output-confined : (n : ℕ) (t : MaybeType) → TypeBy (W .type) t → Confined N W (W .type) (rule.lambda-output n t)
+    pub lambda-output-confined : (n : ℕ) (t : MaybeType) → n < N .nodes → TypeBy (W .type) t → Confined N W (W .type) (rule.lambda-output n t)
     unfolding rule.lambda-output
-    lambda-output-confined n t h = then-confined _ (new-infer-var-confined regular (drawn-by n)) (λ v q. done-confined _ (by t h q))
+    lambda-output-confined n t l h = then-confined _ (new-infer-var-confined regular (drawn-by n) (n, l, refl)) (λ v q. done-confined _ (by t h q))
       where
         by : (t : MaybeType) → TypeBy (W .type) t → {v : ℕ} → W .type v → W .type (rule.declaredOr t v)
         by (type.Of t) h q = h
         by type.Absent h q = q
 
     -- a param
-    lambda-param-confined : (n : ℕ) (t : MaybeType) → TypeBy (W .type) t → Confined N W Any (rule.lambda-param n t)
-    lambda-param-confined n (type.Of t) h = set-node-type-confined n (t .0) h
-    lambda-param-confined n type.Absent h = then-confined _ (new-infer-var-confined regular (drawn-by n)) (λ v q. set-node-type-confined n v q)
+    lambda-param-confined : (n : ℕ) (t : MaybeType) → n < N .nodes → TypeBy (W .type) t → Confined N W Any (rule.lambda-param n t)
+    lambda-param-confined n (type.Of t) l h = set-node-type-confined n (t .0) h
+    lambda-param-confined n type.Absent l h = then-confined _ (new-infer-var-confined regular (drawn-by n) (n, l, refl)) (λ v q. set-node-type-confined n v q)
 
     -- a lambda's equation and its type
     pub lambda-rule-confined : (cells : List ℕ) (n e o y : ℕ) (t : Items) → n < N .nodes → W .type o → W .type y → Confined N W (W .type) (rule.lambda cells n e o y t)
@@ -621,7 +627,7 @@ module _ {N : Counts} {W : Numbers} where
       unfolding rule.lambda-params rule.lambda-param-at
       lambda-params-confined t I =
           each-confined 0 (t .count) _
-          (λ i l. lambda-param-confined (item (b .cells) t i) (declaredAt (b .rows) (b .cells) (item (b .cells) t i)) (declared-known (declaredAt (b .rows) (b .cells) (item (b .cells) t i)) (R .params (item (b .cells) t i) (I i (omega arith)))))
+          (λ i l. lambda-param-confined (item (b .cells) t i) (declaredAt (b .rows) (b .cells) (item (b .cells) t i)) (I i (omega arith)) (declared-known (declaredAt (b .rows) (b .cells) (item (b .cells) t i)) (R .params (item (b .cells) t i) (I i (omega arith)))))
 
       -- the method of a call
       pub method-of-confined : (n e x name : ℕ) → Confined N W (Maybe (W .def)) (rule.method-of b n e x name)

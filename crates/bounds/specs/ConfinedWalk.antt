@@ -57,7 +57,7 @@ module _ {N : Counts} {W : Numbers} {b : Body} (K : Known N b W) (R : Refers N b
           (λ x u. then-confined _ (each-confined 1 (t .count - 1) _ (λ i k. then-confined _ (visit _ (I i (omega arith))) (λ y v. equate-on-confined K n x y (rule.mismatch error·K.TypeMismatch (rule.at (item (b .cells) t i)) x y 0) h u v refl refl))) (λ z q. array-of-confined x u))
 
       by : (q : Bool) → eqb (t .count) 0 ≡ q → Confined N W (W .type) (cond q (rule.empty-list n) (_>>=_ (E (item (b .cells) t 0)) (λ x. rest b E n t x)))
-      by true p = empty-list-confined K n
+      by true p = empty-list-confined K n h
       by false p = full (omega (arith, eqb-false (t .count) 0 p))
 
   -- an index of an array
@@ -69,7 +69,7 @@ module _ {N : Counts} {W : Numbers} {b : Body} (K : Known N b W) (R : Refers N b
   -- a let
   local-confined : (n : ℕ) (t : MaybeType) (e : MaybeNode) → n < N .nodes → TypeBy (W .type) t → MaybeLower (N .nodes) e → Confined N W Any (typeck-local b E n t e)
   unfolding typeck-local
-  local-confined n t node.Absent h u m = let-without-init-confined K n t u
+  local-confined n t node.Absent h u m = let-without-init-confined K n t h u
   local-confined n t (node.Of e) h u m = then-confined _ (visit (e .0) m) (λ y v. let-with-init-confined K n t y h u v)
 
   -- a statement
@@ -135,8 +135,8 @@ module _ {N : Counts} {W : Numbers} {b : Body} (K : Known N b W) (R : Refers N b
   rule-confined : (n : ℕ) (m : Node) → n < N .nodes → NodeLower N (b .cells) m → Confined N W (W .type) (rule-of b E n m)
   unfolding typeck-expr-bin-op typeck-assign typeck-op-assign typeck-expr-un-op typeck-expr-field typeck-expr-index typeck-expr-if typeck-branches block-at typeck-loop typeck-call typeck-expr-meth-call typeck-lambda lambda-body rule.assign rule.op-assign
   rule-confined n form.Bool h c = done-confined _ (K .type 1 (omega arith))
-  rule-confined n form.Int h c = new-infer-var-confined integer none
-  rule-confined n form.Float h c = new-infer-var-confined floating none
+  rule-confined n form.Int h c = new-infer-var-confined integer none refl
+  rule-confined n form.Float h c = new-infer-var-confined floating none refl
   rule-confined n form.Str h c = refuse-10-confined n h
   rule-confined n (form.Bin o l r) h c = then-confined _ (two-confined (l .0) (r .0) (c .0) (c .1)) (λ t q. bin-op-confined K n o _ _ _ _ h (q .0) (q .1))
   rule-confined n (form.Un o e) h c = then-confined _ (visit (e .0) c) (λ x u. un-op-confined K o (e .0) x u)
@@ -160,7 +160,7 @@ module _ {N : Counts} {W : Numbers} {b : Body} (K : Known N b W) (R : Refers N b
   rule-confined n (form.Param t) h c = done-confined _ (K .type 12 (omega arith))
   rule-confined n (form.Lambda o e t) h c =
       then-confined _ (lambda-params-confined K R t (c .2))
-      (λ z q. then-confined _ (lambda-output-confined K n o (declared-known K o (c .0)))
+      (λ z q. then-confined _ (lambda-output-confined K n o h (declared-known K o (c .0)))
       (λ x u. then-confined _ (visit (e .0) (c .1)) (λ y v. lambda-rule-confined K (b .cells) n (e .0) x y t h u v)))
   rule-confined n (form.Path r k t) h c = path-confined K R n r k t h (c .0) (c .1)
 
@@ -181,7 +181,7 @@ module _ {N : Counts} {W : Numbers} {b : Body} (K : Known N b W) where
   param-type-confined n type.Absent u = done-confined tt tt
 
   -- each P of `fn`
-  params-confined : Refers N b → (t : Items) → ItemsLower N (b .cells) t → Confined N W Any (params (b .rows) (b .cells) t)
+  pub params-confined : Refers N b → (t : Items) → ItemsLower N (b .cells) t → Confined N W Any (params (b .rows) (b .cells) t)
   unfolding params param
   params-confined R t I =
       each-confined 0 (t .count) _
@@ -223,7 +223,7 @@ module _ {N : Counts} {W : Numbers} {b : Body} (K : Known N b W) where
   settled-confined y (some v) u = then-confined _ (drawn-as-confined v) (λ k q. open-type-confined (k .1) (k .0))
 
   -- a variable
-  resolve-variable-confined : (x : ℕ) → W .type x → Confined N W (W .type) (resolve-variable x)
+  pub resolve-variable-confined : (x : ℕ) → W .type x → Confined N W (W .type) (resolve-variable x)
   unfolding resolve-variable
   resolve-variable-confined x u = then-confined _ (end-of-confined x u) (λ y v. then-confined _ (shape-of-confined y) (λ s q. settled-confined y (asVar s) v))
 
@@ -249,7 +249,7 @@ module _ {N : Counts} {W : Numbers} {b : Body} (K : Known N b W) where
   final-type-confined n (some x) u = then-confined _ (then-confined _ (shape-of-confined x) (λ s p. resolve-shape-confined x s (asVar s) u p)) (λ y v. set-final-confined n y)
 
   -- the final types of k nodes
-  resolve-nodes-confined : (k : ℕ) → Confined N W Any (resolve-nodes k)
+  pub resolve-nodes-confined : (k : ℕ) → Confined N W Any (resolve-nodes k)
   unfolding resolve-nodes resolve-node
   resolve-nodes-confined k = each-confined 0 k _ (λ i l. then-confined _ (node-type-confined i) (λ t u. final-type-confined i t u))
 
@@ -257,7 +257,7 @@ module _ {N : Counts} {W : Numbers} {b : Body} (K : Known N b W) where
 
 module _ (n : Counts) (rows cells : List ℕ) (w : WellFormed n rows cells) {W : Numbers} (K : Known n (bodyWith n rows cells) W) where
   -- BODY and its result
-  typeck-confined : Confined n W Any (typeck (bodyWith n rows cells) (fnLine rows cells .body .0))
+  pub typeck-confined : Confined n W Any (typeck (bodyWith n rows cells) (fnLine rows cells .body .0))
   unfolding typeck result fnLine
   typeck-confined =
       let h = body-lower n rows cells w in

@@ -188,7 +188,7 @@ run-in-rows N (done a) s I H = tt
 run-in-rows N (refuse k n) s I H = tt
 run-in-rows N (draw k o f) s I H =
     let q = longer (s .rows) (var (length (s .mem .binds))) in
-    run-in-rows N (f (length (s .rows))) (drawn k o s) (drawn-stands N k o s I) (λ T h. H T (λ x l. h x (omega (arith, q))) (length (s .rows)) (h (length (s .rows)) (omega (arith, q))))
+    run-in-rows N (f (length (s .rows))) (drawn k o s) (drawn-stands N k o s I) (λ T h. H T (λ x l. h x (omega (arith, q))) .1 (length (s .rows)) (h (length (s .rows)) (omega (arith, q))))
 run-in-rows N (intern t f) s I H =
     let q = H (λ x. x < length (s .rows)) (λ x l. l) in
     let e = parts-sane N (length (s .rows)) t (q .1) (q .2) in
@@ -266,6 +266,10 @@ module _ (n : Counts) (rows cells : List ℕ) (w : WellFormed n rows cells) wher
         rows = λ x. parts-more n (Declared n) T declared-below (row (declared rows cells (n .types)) x) (declared-parts (n .types) (omega arith) x);
         own = record { output = declared-below _ (fn-output n rows cells w); raw = blank-raw T 1024 };
       }
+
+  -- so the invariant of demand 3 holds there
+  pub declared-track : Track (declared-state n rows cells)
+  declared-track = start-stands .track
 
   -- each declared type is a type, wherever each row is
   pub known : (T : ℕ → Type 0) → ((x : ℕ) → x < length (declared rows cells (n .types)) → T x) → Known n (bodyWith n rows cells) (standing n T)

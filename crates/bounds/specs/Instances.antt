@@ -71,7 +71,7 @@ run-of : {A : Type 0} (N : Counts) (p : Walk A) → IsConfined N (standing N Any
 unfolding run IsConfined drawn emitted written refused marking raised
 run-of N (done a) c s h = h
 run-of N (refuse k n) c s h = h
-run-of N (draw k o f) c s h = run-of N (f (length (s .rows))) (c (length (s .rows)) tt) (drawn k o s) (rows-more (Parts (standing N Any)) (s .rows) (var (length (s .mem .binds))) h tt)
+run-of N (draw k o f) c s h = run-of N (f (length (s .rows))) (c .1 (length (s .rows)) tt) (drawn k o s) (rows-more (Parts (standing N Any)) (s .rows) (var (length (s .mem .binds))) h tt)
 run-of N (intern t f) c s h = run-of N (f ((interned t s) .0)) (c .3 ((interned t s) .0) tt) ((interned t s) .1) (interned-of N t s h (c .2))
 run-of N (equate n x y e f) c s h =
     let a = clip (length (s .rows)) x in

@@ -22,4 +22,9 @@ pub mod Causes
 pub mod Instances
 pub mod Ended
 pub mod Demand
+pub mod Defaults
+pub mod Origins
+pub mod Alike
+pub mod WalkAlike
+pub mod NeverMet
 pub mod Claims

@@ -85,7 +85,7 @@ module _ (l : List Shape) where
   unfolding run IsConfined emitted written refused marking raised
   run-more N (done a) f s m = m
   run-more N (refuse k n) f s m = m
-  run-more N (draw k o g) f s m = run-more N (g (length (s .rows))) (f (length (s .rows)) tt) (drawn k o s) (drawn-more k o s m)
+  run-more N (draw k o g) f s m = run-more N (g (length (s .rows))) (f .1 (length (s .rows)) tt) (drawn k o s) (drawn-more k o s m)
   run-more N (intern t g) f s m = run-more N (g ((interned t s) .0)) (f .3 ((interned t s) .0) tt) ((interned t s) .1) (interned-more t s m (f .0))
   run-more N (equate n x y e g) f s m =
       let a = clip (length (s .rows)) x in
@@ -137,7 +137,7 @@ at-confined : {A : Type 0} (P : State → Type 0) (l : List Shape) → ((s : Sta
 unfolding AtEquations IsConfined emitted written marking raised
 at-confined P l h N (done a) f s m = tt
 at-confined P l h N (refuse k n) f s m = tt
-at-confined P l h N (draw k o g) f s m = at-confined P l h N (g (length (s .rows))) (f (length (s .rows)) tt) (drawn k o s) (drawn-more l k o s m)
+at-confined P l h N (draw k o g) f s m = at-confined P l h N (g (length (s .rows))) (f .1 (length (s .rows)) tt) (drawn k o s) (drawn-more l k o s m)
 at-confined P l h N (intern t g) f s m = at-confined P l h N (g ((interned t s) .0)) (f .3 ((interned t s) .0) tt) ((interned t s) .1) (interned-more l t s m (f .0))
 at-confined P l h N (equate n x y e g) f s m =
     let a = clip (length (s .rows)) x in

@@ -68,7 +68,7 @@ run-stop : {A : Type 0} (N : Counts) (p : Walk A) → IsConfined N any-numbers A
 unfolding run IsConfined drawn emitted written refused marking
 run-stop N (done a) c s h l = rw h l
 run-stop N (refuse k n) c s h l = inl (c .1, l)
-run-stop N (draw k o f) c s h l = run-stop N (f (length (s .rows))) (c (length (s .rows)) tt) (drawn k o s) h l
+run-stop N (draw k o f) c s h l = run-stop N (f (length (s .rows))) (c .1 (length (s .rows)) tt) (drawn k o s) h l
 run-stop N (intern t f) c s h l = run-stop N (f ((interned t s) .0)) (c .3 ((interned t s) .0) tt) ((interned t s) .1) (rw (interned-stop t s) h) (rw (interned-log t s) l)
 run-stop N (equate n x y e f) c s h l =
     let a = clip (length (s .rows)) x in

@@ -41,7 +41,7 @@ run-raised : {A : Type 0} (N : Counts) (p : Walk A) → IsConfined N any-numbers
 unfolding run IsConfined drawn emitted written refused marking raised
 run-raised N (done a) c s h = h
 run-raised N (refuse k n) c s h = h
-run-raised N (draw k o f) c s h = run-raised N (f (length (s .rows))) (c (length (s .rows)) tt) (drawn k o s) h
+run-raised N (draw k o f) c s h = run-raised N (f (length (s .rows))) (c .1 (length (s .rows)) tt) (drawn k o s) h
 run-raised N (intern t f) c s h = run-raised N (f ((interned t s) .0)) (c .3 ((interned t s) .0) tt) ((interned t s) .1) (rw (interned-log t s) h)
 run-raised N (equate n x y e f) c s h =
     let a = clip (length (s .rows)) x in

@@ -274,12 +274,16 @@ module _ (n : Counts) (rows cells : List ℕ) (w : WellFormed n rows cells) wher
   methods-from ts j zero x name h = tt
   methods-from ts j (suc k) x name h = or-else (λ d. d < n .defs) (methodIn ts rows cells j x name) (methodFrom ts rows cells (suc j) k x name) (bind-method ts j x name (omega arith)) (methods-from ts (suc j) k x name (omega arith))
 
+  -- `fn` is of its form
+  pub fn-form : formIn rows fn-at ≡ 29
+  unfolding each onlyForm forms
+  fn-form = only-form key-fn 29 _ refl (w .fn .form) (w .fn .key)
+
   -- OUT of `fn`
   pub fn-output : Declared n (fnLine rows cells .output .0)
-  unfolding fnLine each onlyForm formAt forms kindAt
+  unfolding fnLine formAt forms kindAt
   fn-output =
-      let f : formIn rows fn-at ≡ 29 = only-form key-fn 29 _ refl (w .fn .form) (w .fn .key) in
-      rw (add-zero (firstIn rows fn-at)) at (type-field n _ (firstIn rows fn-at + 0) rows cells (w .fn .fields 0 (omega (arith, fn-count n rows cells w))) (rw f))
+      rw (add-zero (firstIn rows fn-at)) at (type-field n _ (firstIn rows fn-at + 0) rows cells (w .fn .fields 0 (omega (arith, fn-count n rows cells w))) (rw fn-form))
 
   -- each P of `fn`
   pub fn-params : ItemsLower n cells (fnLine rows cells .params)

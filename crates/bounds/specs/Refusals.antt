@@ -36,7 +36,7 @@ run-placed : {A : Type 0} (N : Counts) (p : Walk A) → IsConfined N any-numbers
 unfolding run IsConfined drawn emitted written refused marking raised
 run-placed N (done a) c s h = h
 run-placed N (refuse k n) c s h = c .0
-run-placed N (draw k o f) c s h = run-placed N (f (length (s .rows))) (c (length (s .rows)) tt) (drawn k o s) h
+run-placed N (draw k o f) c s h = run-placed N (f (length (s .rows))) (c .1 (length (s .rows)) tt) (drawn k o s) h
 run-placed N (intern t f) c s h = run-placed N (f ((interned t s) .0)) (c .3 ((interned t s) .0) tt) ((interned t s) .1) (rw (interned-stop t s) h)
 run-placed N (equate n x y e f) c s h =
     let a = clip (length (s .rows)) x in

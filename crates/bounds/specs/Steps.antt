@@ -1,22 +1,23 @@
 -- What each step of a typing rule adds to the tables, and what a loop adds. Assumes nothing.
 use mathlib.Core.Path.{_≡_, refl, ap}
 use mathlib.Core.List.{List, [], _∷_, map}
-use mathlib.Core.Option.{Option}
+use mathlib.Core.Option.{Option, none, some}
 use mathlib.Core.Bool.{Bool, true, false, cond}
 use Prim.Native.Nat.{ℕ, suc, zero, _+_, _*_, _<_}
 use native.Mathlib.Omega.{arith}
 use native.Mathlib.Nat.{add-mul, suc-mul}
 use borrow.Author.Needs.{needs}
-use lib.ListN.{length}
+use lib.ListN.{length, getD, set, length-set}
 use lib.Dec.{ltb}
 use Rattle.theory.specs.Rules.{Shape, Kind, inst, base, arr, ref, fn, fun, lam}
 use Rattle.theory.specs.Program.{clip, done, refuse, intern, run, solved}
+use Rattle.nodes.specs.Nodes.{isSome}
 use Rattle.record.specs.declared.Extra.{Extra}
 use Rattle.record.specs.declared.TypingError.{TypingError}
 use Rattle.record.specs.Own.{Own, typed, marked, resolved}
 use Rattle.record.specs.Steps.{Walk, Step, change, set-node-type, set-extra, set-final, node-type, shape-of, all-types, output, new-infer-var, array-of, ref-to, fn-def, instance, paramType, make-lambda, make-function, mark-var, error, caused, equation, for-each}
 use Rattle.record.specs.Encodes.{inputCount}
-use Rattle.bounds.specs.Adds.{Cost, cost, nothing, both, Within, Adds, same-larger, larger-within, drawn-larger, interned-larger, emitted-larger, written-larger, refused-larger, marking-larger, equated-larger, adds-within, adds-any, then}
+use Rattle.bounds.specs.Adds.{Cost, cost, nothing, both, Within, Adds, Kept, kept-same, same-larger, larger-within, drawn-larger, interned-larger, emitted-larger, written-larger, refused-larger, marking-larger, equated-larger, adds-within, adds-any, then}
 
 -- ── costs ──
 
@@ -63,24 +64,32 @@ module _ {A : Type 0} where
   cond-adds false P Q = Q
 
 -- a change of the walk's own
-change-adds : (f : Own → Own) → Adds nothing (change f)
+change-adds : (f : Own → Own) → ((o : Own) → Kept o (f o)) → Adds nothing (change f)
 unfolding run change
-change-adds f = record { larger = λ s. written-larger (f (s .own)) s }
+change-adds f h = record { larger = λ s. written-larger (f (s .own)) s (h (s .own)) }
+
+-- one number more in a list
+pub set-some : (l : List (Option ℕ)) (n t i : ℕ) → isSome (getD l i none) ≡ true → isSome (getD (set l n (some t)) i none) ≡ true
+set-some [] n t i h = h
+set-some (x ∷ l) zero t zero h = refl
+set-some (x ∷ l) zero t (suc i) h = h
+set-some (x ∷ l) (suc n) t zero h = h
+set-some (x ∷ l) (suc n) t (suc i) h = set-some l n t i h
 
 -- RAW of a node
 pub set-node-type-adds : (n t : ℕ) → Adds nothing (set-node-type n t)
-unfolding set-node-type
-set-node-type-adds n t = change-adds (typed n t)
+unfolding set-node-type typed
+set-node-type-adds n t = change-adds (typed n t) (λ o. record { places = length-set (o .raw) n (some t); typed = set-some (o .raw) n t })
 
 -- EXTRA of a node
 pub set-extra-adds : (n : ℕ) (e : Extra) → Adds nothing (set-extra n e)
-unfolding set-extra
-set-extra-adds n e = change-adds (marked n e)
+unfolding set-extra marked
+set-extra-adds n e = change-adds (marked n e) (λ o. kept-same refl)
 
 -- FINAL of a node
 pub set-final-adds : (n t : ℕ) → Adds nothing (set-final n t)
-unfolding set-final
-set-final-adds n t = change-adds (resolved n t)
+unfolding set-final resolved
+set-final-adds n t = change-adds (resolved n t) (λ o. kept-same refl)
 
 -- RAW of a node, as it stands
 pub node-type-adds : (n : ℕ) → Adds nothing (node-type n)

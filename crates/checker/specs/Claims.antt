@@ -11,7 +11,7 @@ use mathlib.Core.Bool.{true, false}
 use Prim.Native.Nat.{ℕ, _<_, _≤_}
 use lib.ListN.{length}
 use Rattle.theory.specs.Rules.{refused12, refused13}
-use Rattle.theory.specs.Program.{Equation}
+use Rattle.theory.specs.Program.{Equation, run}
 use Rattle.theory.specs.Basics.{All}
 use Rattle.theory.specs.Ways.{Way, Kinded, Agrees, Sided, Meets, Went, Failed}
 use Rattle.type_table.specs.declared.NodeId.{NodeId}
@@ -19,11 +19,15 @@ use Rattle.forms.specs.declared.Fault.{Fault}
 use Rattle.refs.specs.declared.Counts.{Counts}
 use Rattle.body.specs.declared.Answer.the-variants as reading
 use Rattle.body.specs.Body.{most-bytes}
+use Rattle.resolve.specs.Resolve.{type-body}
+use Rattle.resolve.specs.Body.{first-state}
 use Rattle.bounds.specs.Confined.{isMade}
 use Rattle.bounds.specs.Newest.{Unrefused, NewestIs}
 use Rattle.bounds.specs.Causes.{Pairwise, Caused}
 use Rattle.bounds.specs.Ended.{EndedIn}
 use Rattle.bounds.specs.Instances.{WayOf}
+use Rattle.bounds.specs.Defaults.{Defaults, other-body}
+use Rattle.bounds.specs.Claims as walk
 use Rattle.errors.specs.Rows.{errorRows}
 use Rattle.tables.specs.Read.{madeAt}
 use Rattle.answers.specs.declared.Totals.{Totals}
@@ -33,7 +37,7 @@ use Rattle.answers.specs.Lent.{Lent, cleared, tooShort, Held, held, totals}
 use Rattle.checker.specs.Check.{readingOf, checkOf}
 use Rattle.checker.specs.File.{equationsOf, raisedOf, typesOf, kindsOf, errorsOf}
 use Rattle.checker.specs.Handed.{typesHeld, kindsHeld, bindsHeld, errorsHeld}
-use Rattle.checker.specs.Answers.{On0, On10to13}
+use Rattle.checker.specs.Answers.{On0, On10to13, read-well-formed}
 use Rattle.checker.specs.Answers as answers
 use Rattle.checker.specs.Limits.{Limited, Zero}
 use Rattle.checker.specs.Demand as demand
@@ -142,6 +146,11 @@ equations-ended = equations.ended
 -- the errors with CAUSE 1 are, one to one and in order, those of the equations that failed, and each names the sides of its own
 pub errors-of-equations : (s : List ℕ) → Caused (errorsOf s) (equationsOf s)
 errors-of-equations = equations.caused
+
+-- a file that was read meets no default of the rules: with any other answers D in their place (`Defaults` of crate `bounds`) its walk ends with the same answer in the same state
+pub defaults-never-met : (s : List ℕ) (n : Counts) → readingOf s .answer ≡ reading.Body n → (D : Defaults) → let h = readingOf s in
+    run (other-body D n (h .rows) (h .cells)) (first-state (h .rows) (h .cells)) ≡ run (type-body n (h .rows) (h .cells)) (first-state (h .rows) (h .cells))
+defaults-never-met s n e = walk.defaults-never-met n (readingOf s .rows) (readingOf s .cells) (read-well-formed s n e)
 
 -- whatever the answer and whatever is lent, the sides so up to and including the first equation q that fails or is refused 12: no way meets all the equations up to and
 -- including that one. The newest equation stands first

@@ -18,7 +18,7 @@ use Rattle.errors.specs.Rows.{rowAt}
 use Rattle.answers.specs.declared.Totals.{Totals}
 use Rattle.answers.specs.declared.Answer.{Answer}
 use Rattle.answers.specs.declared.Answer.the-variants as answer
-use Rattle.answers.specs.Lent.{Lent, answerNumber, answerPlace}
+use Rattle.answers.specs.Lent.{Lent, tooShort, answerNumber, answerPlace}
 use Rattle.checker.specs.Check.{checkOf}
 use Rattle.checker.specs.Claims.{made-forms}
 use Rattle.output.specs.Output.{zeros, newline}
@@ -27,6 +27,7 @@ use Rattle.report_text.specs.declared.Reported.the-variants.{Written, NoRoom}
 use Rattle.report_text.specs.Lines.{answerLine, typeText, typeLine}
 use Rattle.report_text.specs.Written.{textOf}
 use Rattle.report.specs.Report.{Told, told, reportText, reportOf}
+use Rattle.report.specs.Example.{example, example-output, example-reported}
 
 -- a refusal
 alone : (a : Answer) (nodes vars types : List ℕ) (errors : ℕ → ErrorRow) → (answerNumber a ≡ 0 → ⊥) → textOf a nodes vars types errors ≡ answerLine (answerNumber a) (answerPlace a)
@@ -91,3 +92,10 @@ module _ (s : List ℕ) (l : Lent) (o : List ℕ) where
   pub refusal-alone : (answerNumber (checkOf s l .answer) ≡ 0 → ⊥) → reportText s l ≡ answerLine (answerNumber (checkOf s l .answer)) (answerPlace (checkOf s l .answer))
   unfolding reportText
   refusal-alone h = alone (checkOf s l .answer) (checkOf s l .tables .nodes) (checkOf s l .tables .vars) (checkOf s l .tables .types) (rowAt (checkOf s l .tables .errors)) h
+
+-- document 01's worked body: with any tables that are long enough and room for it, the output begins with the report that stands there, and the bytes after it are
+-- unchanged. No definition is given the example: its bytes are read, typed and printed by computation (Example)
+pub worked-example : (l : Lent) (o : List ℕ) → tooShort l ≡ false → length example-output ≤ length o → reportOf example l o .output ≡ example-output ++ drop (length example-output) o
+worked-example l o h room =
+    let e : reportText example l ≡ example-output = example-reported l h in
+    ap (λ (r : Told). r .output) (with-room example l o (rw e room)) ∙ ap (λ (t : List ℕ). t ++ drop (length t) o) e

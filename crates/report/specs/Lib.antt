@@ -1,3 +1,4 @@
 pub mod Report
 pub mod Parts
+pub mod Example
 pub mod Claims
