@@ -39,9 +39,9 @@ isMismatch refused12 = false
 isMismatch refused13 = false
 isMismatch dry = false
 
--- an equation that failed
-abbrev pub isFailed : Equation → Bool
-isFailed q = isMismatch (q .answer)
+-- an equation that is a mismatch
+abbrev pub mismatched : Equation → Bool
+mismatched q = isMismatch (q .answer)
 
 -- those of a list that pass a test, in order
 abbrev pub those : {A : Type 0} → (A → Bool) → List A → List A
@@ -61,7 +61,7 @@ ErrorOf e q = Names (q .expected) (q .got) e
 
 -- of errors and equations, both newest first: the errors with CAUSE 1 are, in order, those of the equations that failed
 abbrev pub Caused : List TypingError → List Equation → Type 0
-Caused es l = Pairwise ErrorOf (those isCaused es) (those isFailed l)
+Caused es l = Pairwise ErrorOf (those isCaused es) (those mismatched l)
 
 -- ── one more ──
 
@@ -71,11 +71,11 @@ module _ (es : List TypingError) (l : List Equation) (h : Caused es l) where
   own-more e p = rw p h
 
   -- an equation that did not fail
-  met-more : (q : Equation) → isFailed q ≡ false → Caused es (q ∷ l)
+  met-more : (q : Equation) → mismatched q ≡ false → Caused es (q ∷ l)
   met-more q p = rw p h
 
   -- an equation that failed, and its error
-  failed-more : (e : TypingError) (q : Equation) → ErrorOf e q → isCaused e ≡ true → isFailed q ≡ true → Caused (e ∷ es) (q ∷ l)
+  failed-more : (e : TypingError) (q : Equation) → ErrorOf e q → isCaused e ≡ true → mismatched q ≡ true → Caused (e ∷ es) (q ∷ l)
   failed-more e q r p f = rw (p, f) (r, h)
 
 -- ── a run ──

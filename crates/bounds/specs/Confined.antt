@@ -110,10 +110,10 @@ pub record Placed (m k p : ℕ) : Type 0 where
   pub lower : p < m
 
 -- the origin of a drawn variable: of a Regular one, that of one of the first m nodes; of a literal's, none
-abbrev pub Origin : ℕ → Kind → Option ℕ → Type 0
-Origin m regular o = (n : ℕ) × (n < m) × (o ≡ drawn-by n)
-Origin m integer o = o ≡ none
-Origin m floating o = o ≡ none
+abbrev pub DrawnAt : ℕ → Kind → Option ℕ → Type 0
+DrawnAt m regular o = (n : ℕ) × (n < m) × (o ≡ drawn-by n)
+DrawnAt m integer o = o ≡ none
+DrawnAt m floating o = o ≡ none
 
 -- the error of an equation that failed: its CAUSE is 1, and it names the sides x, expected, and y, got
 pub record Names (x y : ℕ) (e : TypingError) : Type 0 where
@@ -127,7 +127,7 @@ module _ (N : Counts) (W : Numbers) {A : Type 0} (Q : A → Type 0) where
   unfoldable pub IsConfined : Walk A → Type 0
   IsConfined (done a) = Q a
   IsConfined (refuse k n) = Placed (N .nodes) k n × (k ≤ 11)
-  IsConfined (draw k o f) = Origin (N .nodes) k o × ((r : ℕ) → W .type r → IsConfined (f r))
+  IsConfined (draw k o f) = DrawnAt (N .nodes) k o × ((r : ℕ) → W .type r → IsConfined (f r))
   IsConfined (intern t f) = (isMade t ≡ true) × (asVar t ≡ none) × Parts W t × ((r : ℕ) → W .type r → IsConfined (f r))
   IsConfined (equate n x y e f) = Placed (N .nodes) 12 n × Placed (N .nodes) 13 n × W .type x × W .type y × ((c : Bool) → IsConfined (f c)) × Names x y (e mismatch)
   IsConfined (emit e p) = IsConfined p × (e .cause ≡ 0)
@@ -332,7 +332,7 @@ module _ {N : Counts} {W : Numbers} where
   mark-var-confined v = record { by = tt }
 
   -- a variable
-  pub new-infer-var-confined : (k : Kind) (o : Option ℕ) → Origin (N .nodes) k o → Confined N W (W .type) (new-infer-var k o)
+  pub new-infer-var-confined : (k : Kind) (o : Option ℕ) → DrawnAt (N .nodes) k o → Confined N W (W .type) (new-infer-var k o)
   unfolding IsConfined new-infer-var
   new-infer-var-confined k o h = record { by = (h, λ r v. v) }
 

@@ -29,7 +29,7 @@ use Rattle.bounds.specs.Weights.{body-lower}
 use Rattle.bounds.specs.Body.{params-adds, result-adds, resolve-nodes-adds}
 use Rattle.bounds.specs.Declared.{behindTypes, types-declared, body-behind}
 use Rattle.bounds.specs.Refers.{refers, fn-form, fn-params}
-use Rattle.bounds.specs.Confined.{Confined, Known, Origin, Any, any-numbers, any-known, done-confined, shape-of-confined, node-type-confined, set-final-confined, array-of-confined}
+use Rattle.bounds.specs.Confined.{Confined, Known, DrawnAt, Any, any-numbers, any-known, done-confined, shape-of-confined, node-type-confined, set-final-confined, array-of-confined}
 use Rattle.bounds.specs.ConfinedWalk.{behind-types-confined, params-confined, typeck-confined, resolve-variable-confined}
 use Rattle.bounds.specs.InRows.{declared-state, declared-track}
 use Rattle.bounds.specs.Origins.{OriginsOf, origin-of, drawn-some, run-origins}
@@ -71,7 +71,7 @@ module _ (N : Counts) (small : N .nodes ≤ 1024) (b : Body) (D : Defaults) wher
   itself P = record { by = λ s d. refl; holds = confined-drawn P }
 
   -- an open variable of its kind and origin
-  open-same : (o : Option ℕ) (k : Kind) → Origin (N .nodes) k o → (s : State) → run (open-type o k) s ≡ run (other-open D o k) s
+  open-same : (o : Option ℕ) (k : Kind) → DrawnAt (N .nodes) k o → (s : State) → run (open-type o k) s ≡ run (other-open D o k) s
   open-same o integer h s = refl
   open-same o floating h s = refl
   open-same o regular h s = rw (h .2 ∙ drawn-some (h .0) (omega (arith, h .1)))

@@ -12,28 +12,28 @@ use Rattle.theory.specs.Program.{done, refuse, draw, intern, equate, emit, mark
 use Rattle.refs.specs.declared.Counts.{Counts}
 use Rattle.record.specs.declared.TypingError.{TypingError}
 use Rattle.record.specs.Steps.{State, Walk, drawn-by}
-use Rattle.bounds.specs.Confined.{Origin, IsConfined, any-numbers, any-state}
+use Rattle.bounds.specs.Confined.{DrawnAt, IsConfined, any-numbers, any-state}
 
 -- the origins of variables of these kinds, among m nodes
 abbrev pub Origins : ℕ → List Kind → List (Option ℕ) → Type 0
 Origins m [] [] = Unit {0}
 Origins m [] (o ∷ os) = ⊥
 Origins m (k ∷ ks) [] = ⊥
-Origins m (k ∷ ks) (o ∷ os) = Origin m k o × Origins m ks os
+Origins m (k ∷ ks) (o ∷ os) = DrawnAt m k o × Origins m ks os
 
 -- so those of a state
 abbrev pub OriginsOf : ℕ → State → Type 0
 OriginsOf m s = Origins m (s .kinds) (s .origins)
 
 -- one variable more
-origins-more : (m : ℕ) (ks : List Kind) (os : List (Option ℕ)) (k : Kind) (o : Option ℕ) → Origins m ks os → Origin m k o → Origins m (ks ++ k ∷ []) (os ++ o ∷ [])
+origins-more : (m : ℕ) (ks : List Kind) (os : List (Option ℕ)) (k : Kind) (o : Option ℕ) → Origins m ks os → DrawnAt m k o → Origins m (ks ++ k ∷ []) (os ++ o ∷ [])
 origins-more m [] [] k o h p = (p, tt)
 origins-more m [] (x ∷ os) k o h p = absurd h
 origins-more m (y ∷ ks) [] k o h p = absurd h
 origins-more m (y ∷ ks) (x ∷ os) k o h p = (h .0, origins-more m ks os k o (h .1) p)
 
 -- the origin of a variable
-pub origin-of : (m : ℕ) (ks : List Kind) (os : List (Option ℕ)) → Origins m ks os → (v : ℕ) → v < length ks → Origin m (kind ks v) (getD os v none)
+pub origin-of : (m : ℕ) (ks : List Kind) (os : List (Option ℕ)) → Origins m ks os → (v : ℕ) → v < length ks → DrawnAt m (kind ks v) (getD os v none)
 origin-of m [] [] h v l = absurd (omega arith)
 origin-of m [] (o ∷ os) h v l = absurd h
 origin-of m (k ∷ ks) [] h v l = absurd h
