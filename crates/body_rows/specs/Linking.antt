@@ -6,7 +6,7 @@ use native.Mathlib.Omega.{arith}
 use mathlib.Core.Path.{_≡_, refl, sym, ap, _∙_}
 use mathlib.Core.Logic.{_⊎_, inl, inr}
 use mathlib.Core.List.{List}
-use mathlib.Core.Bool.{Bool, true, false, cond, not, false≢true}
+use mathlib.Core.Bool.{Bool, true, false, cond, not}
 use lib.Dec.{leb, ltb, eqb}
 use lib.ListN.{length, getD, set}
 use lib.Seq.{getD-set-other}
@@ -16,13 +16,13 @@ use Rattle.forms.specs.declared.Cell.{Cell}
 use Rattle.forms.specs.Form.{key-bind, key-node, forms, formAt, kindAt}
 use Rattle.refs.specs.declared.Counts.{Counts}
 use Rattle.refs.specs.Refs.{nodes-at, fixed-types, diverges, form-param, formIn, firstIn, countIn, userIn, tagIn, valueIn, a-type, a-def, a-node, a-res, refersTo, isChild, isType, isExpr, isTyped, isLast, stands, isFree, isLocal, isRes, right, levelsOf, larger, taken, unlinked, linked, refsFrom, sameValues, isSame, isRepeated}
+use Rattle.forms.specs.Words.{both}
 use Rattle.well_formed.specs.Counting.{each, each-at}
 use Rattle.well_formed.specs.Kept.{stands-same}
 use Rattle.well_formed.specs.Parsed.{blank}
-use Rattle.body_rows.specs.Lines.{Row, keyAt, WritesRow}
-use Rattle.body_rows.specs.Steps.{cellsAt, rowAt, cells-length-at, cells-at}
-use Rattle.body_rows.specs.Tables.{Look}
-use Rattle.body_rows.specs.Bodies.{cellOf, isTypedRow, standsRow, FieldOk, valuesOf}
+use Rattle.body_rows.specs.Text.{Row, keyAt, Lookup, cellsAt, rowAt, WritableRow}
+use Rattle.body_rows.specs.Steps.{cells-length-at, cells-at}
+use Rattle.body_rows.specs.Rows.{cellOf, isTypedRow, standsRow, WellFormedField, valuesOf}
 
 -- ── the kinds of fields ──
 
@@ -38,10 +38,6 @@ pub record Kinds (k κ : ℕ) : Type 0 where
   pub node-late : refersTo κ ≡ a-node → key-node ≤ k
   pub node-way : refersTo κ ≡ a-node → (κ / 16 ≡ 1) ⊎ (κ / 16 ≡ 2)
   pub res-late : refersTo κ ≡ a-res → key-node ≤ k
-
-both : (b c : Bool) → cond b c false ≡ true → (b ≡ true) × (c ≡ true)
-both true c h = (refl, h)
-both false c h = absurd (false≢true h)
 
 one-of : (a b : ℕ) (c d : Bool) → eqb a b ≡ c → cond c true d ≡ true → (a ≡ b) ⊎ (d ≡ true)
 one-of a b true d e h = inl (eqb-true a b e)
@@ -103,12 +99,12 @@ module _ (rows cells : List ℕ) (p : ℕ) (r : Row) (q : rowAt rows cells p ≡
       sym (ap (λ (c : Cell). c .value) (cells-at cells (firstIn rows p) (countIn rows p) a blank (omega (arith, h, count-seen)))) ∙ ap (λ (x : Row). getD (x .cells) a blank .value) q
 
 -- a `param` has a field
-param-filled : (r : Row) → WritesRow r → r .form ≡ form-param → 0 < length (r .cells)
+param-filled : (r : Row) → WritableRow r → r .form ≡ form-param → 0 < length (r .cells)
 unfolding forms formAt
 param-filled r w e = let l : 1 ≤ length (r .cells) = rw e at (w .least) in l
 
 -- whether a row is a `param` with a type
-typed-seen : (p : ℕ) (rows cells : List ℕ) (r : Row) → rowAt rows cells p ≡ r → WritesRow r → isTyped p rows cells ≡ isTypedRow r
+typed-seen : (p : ℕ) (rows cells : List ℕ) (r : Row) → rowAt rows cells p ≡ r → WritableRow r → isTyped p rows cells ≡ isTypedRow r
 unfolding isTyped isTypedRow
 typed-seen p rows cells r q w = rw (form-seen rows cells p r q) (by (eqb (r .form) form-param) refl)
   where
@@ -120,7 +116,7 @@ typed-seen p rows cells r q w = rw (form-seen rows cells p r q) (by (eqb (r .for
     by false e = refl
 
 -- whether a row's node may stand as a child
-pub stands-seen : (n : Counts) (k x : ℕ) (rows cells : List ℕ) (r : Row) → rowAt rows cells (nodes-at + x) ≡ r → WritesRow r → stands n k x rows cells ≡ standsRow n k x r
+pub stands-seen : (n : Counts) (k x : ℕ) (rows cells : List ℕ) (r : Row) → rowAt rows cells (nodes-at + x) ≡ r → WritableRow r → stands n k x rows cells ≡ standsRow n k x r
 unfolding stands standsRow
 stands-seen n k x rows cells r q w = rw (typed-seen (nodes-at + x) rows cells r q w, form-seen rows cells (nodes-at + x) r q)
 
@@ -161,8 +157,8 @@ res-ok n tag x rows l e f c i = by (eqb tag 1) refl (eqb tag 2) refl (eqb tag 3)
 pub record Tagged (κ tag : ℕ) : Type 0 where
   pub child : refersTo κ ≡ a-node → (tag ≡ 0 → ⊥) → isChild κ tag ≡ true
 
-module _ (k : ℕ) (n n′ : Counts) (look : Look) (κ : ℕ) (c : Cell) (rows cells : List ℕ) (agree : Agree k n n′) (kinds : Kinds k κ) (tagged : Tagged κ (c .tag)) (ok : FieldOk n′ look κ c)
-    (seen : (x : ℕ) → x < n .nodes → rowAt rows cells (nodes-at + x) ≡ look key-node x) (written : (x : ℕ) → x < n .nodes → WritesRow (look key-node x))
+module _ (k : ℕ) (n n′ : Counts) (look : Lookup) (κ : ℕ) (c : Cell) (rows cells : List ℕ) (agree : Agree k n n′) (kinds : Kinds k κ) (tagged : Tagged κ (c .tag)) (ok : WellFormedField n′ look κ c)
+    (seen : (x : ℕ) → x < n .nodes → rowAt rows cells (nodes-at + x) ≡ look key-node x) (written : (x : ℕ) → x < n .nodes → WritableRow (look key-node x))
     (free : isChild κ (c .tag) ≡ true → userIn rows (nodes-at + c .value) ≡ 0) where
   last : key-node ≤ k → standsRow n κ (c .value) (look key-node (c .value)) ≡ standsRow n′ κ (c .value) (look key-node (c .value))
   unfolding standsRow isLast

@@ -1,4 +1,4 @@
-use Rattle.body_write.proofs.PrintLaws.{at-as}
+use Rattle.body_write.proofs.WriteLaws.{at-as}
 use borrow.Author.Needs.{needs}
 use Rattle.body_write.proofs.put_at.Statement.{statement}
 use Rattle.body_write.proofs.put_at.Tie as tie

@@ -1,5 +1,5 @@
 use mathlib.Core.Path.{refl}
-use Rattle.body_write.proofs.PrintLaws.{cell-as}
+use Rattle.body_write.proofs.WriteLaws.{cell-as}
 use borrow.Author.Needs.{needs}
 use Rattle.body_write.proofs.put_cell.Statement.{statement}
 use Rattle.body_write.proofs.put_cell.Tie as tie

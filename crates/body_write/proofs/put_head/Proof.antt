@@ -1,5 +1,5 @@
 use Rattle.output.specs.Appending.{appends-as}
-use Rattle.body_write.proofs.PrintLaws.{head-other}
+use Rattle.body_write.proofs.WriteLaws.{head-other}
 use borrow.Author.Needs.{needs}
 use Rattle.body_write.proofs.put_head.Statement.{statement}
 use Rattle.body_write.proofs.put_head.Tie as tie

@@ -1,11 +1,11 @@
 use borrow.Author.Tests.{eq-eqb, ne-eqb}
-use Rattle.body_rows.specs.Writing.{optionText}
+use Rattle.body_rows.specs.Writing.{optionalText}
 use borrow.Author.Needs.{needs}
 use Rattle.body_write.proofs.put_option.Statement.{statement}
 use Rattle.body_write.proofs.put_option.Tie as tie
 
 pub put-option-spec : {M : Type 1} → statement M
-unfolding optionText
+unfolding optionalText
 put-option-spec =
     tie.close (tie.spec
     (λ c κs. search needs)

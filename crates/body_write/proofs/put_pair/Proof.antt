@@ -1,5 +1,5 @@
 use Rattle.output.specs.Output.{numberText}
-use Rattle.body_write.proofs.PrintLaws.{pair-as}
+use Rattle.body_write.proofs.WriteLaws.{pair-as}
 use borrow.Author.Needs.{needs}
 use Rattle.body_write.proofs.put_pair.Statement.{statement}
 use Rattle.body_write.proofs.put_pair.Tie as tie

@@ -1,12 +1,12 @@
 use Rattle.output.specs.Appending.{appends-as}
-use Rattle.body_write.proofs.PrintLaws.{res-other}
-use Rattle.body_rows.specs.Fields.{tagLetter, resText}
+use Rattle.body_write.proofs.WriteLaws.{res-other}
+use Rattle.body_rows.specs.Text.{tagLetter, resolutionText}
 use borrow.Author.Needs.{needs}
 use Rattle.body_write.proofs.put_res.Statement.{statement}
 use Rattle.body_write.proofs.put_res.Tie as tie
 
 pub put-res-spec : {M : Type 1} → statement M
-unfolding resText tagLetter
+unfolding resolutionText tagLetter
 put-res-spec =
     tie.close (tie.spec
     (λ c. search needs)

@@ -1,4 +1,4 @@
-use Rattle.body_write.proofs.PrintLaws.{row-as}
+use Rattle.body_write.proofs.WriteLaws.{row-as}
 use borrow.Author.Needs.{needs}
 use Rattle.body_write.proofs.put_row.Statement.{statement}
 use Rattle.body_write.proofs.put_row.Tie as tie

@@ -1,4 +1,4 @@
-use Rattle.body_write.proofs.PrintLaws.{values-worded, values-none, values-bare}
+use Rattle.body_write.proofs.WriteLaws.{values-worded, values-none, values-bare}
 use borrow.Author.Needs.{needs}
 use Rattle.body_write.proofs.put_values.Statement.{statement}
 use Rattle.body_write.proofs.put_values.Tie as tie

@@ -1,13 +1,13 @@
 use Rattle.output.specs.Appending.{appends-as, append-none}
-use Rattle.body_write.proofs.PrintLaws.{way-other}
-use Rattle.body_rows.specs.Fields.{fieldText}
-use Rattle.body_rows.specs.Writing.{optionText}
+use Rattle.body_write.proofs.WriteLaws.{way-other}
+use Rattle.body_rows.specs.Text.{fieldText}
+use Rattle.body_rows.specs.Writing.{optionalText}
 use borrow.Author.Needs.{needs}
 use Rattle.body_write.proofs.put_way.Statement.{statement}
 use Rattle.body_write.proofs.put_way.Tie as tie
 
 pub put-way-spec : {M : Type 1} → statement M
-unfolding fieldText optionText
+unfolding fieldText optionalText
 put-way-spec =
     tie.close (tie.spec
     (λ c κs. search needs)

@@ -1,4 +1,4 @@
-use Rattle.body_write.proofs.PrintLaws.{body-as}
+use Rattle.body_write.proofs.WriteLaws.{body-as}
 use borrow.Author.Needs.{needs}
 use Rattle.body_write.proofs.write_body.Statement.{statement}
 use Rattle.body_write.proofs.write_body.Tie as tie
