@@ -1,4 +1,4 @@
--- A good body is accepted: its text is read, and the tables have its rows.
+-- Well-formed rows are accepted: their text is read, and the tables have them.
 -- Assumes nothing.
 use Prim.Native.Nat.{ℕ, zero, suc, _+_, _*_, _-_, _/_, _<_, _≤_}
 use native.Mathlib.Nat.{add-zero, zero-add}
@@ -627,7 +627,7 @@ module _ (n : Counts) (look : Lookup) (good : WellFormedRows n look) where
     users = λ x h. absurd (omega arith);
   }
 
-  -- GOOD BODIES ARE ACCEPTED: the rows of a good body are read to their end, and the tables have them
+  -- WELL-FORMED ROWS ARE ACCEPTED: they are read to their end, and the tables have them
   pub rows-accepted : (rows cells : List ℕ) → rows-length ≤ length rows → cells-length ≤ length cells → length (fileText (bodyRows n look)) ≤ most-bytes
       → Finished (rowsFrom (bodyRows n look) 1 first (zeros cells) (zeros rows))
   unfolding bodyRows
@@ -641,14 +641,16 @@ module _ (n : Counts) (look : Lookup) (good : WellFormedRows n look) where
   listed-writes k zero i h = tt
   listed-writes k (suc m) i h = (good .rows k i (inl (omega arith)) .writable, listed-writes k m (i + 1) (omega arith))
 
-  keys-write : (m k : ℕ) → WritableRows (keysFrom n look k m)
+  -- the rows of some keys have texts
+  keys-writable : (m k : ℕ) → WritableRows (keysFrom n look k m)
   unfolding keysFrom WritableRows
-  keys-write zero k = tt
-  keys-write (suc m) k = writable-append (listed (look k) 0 (countOf n k)) (keysFrom n look (k + 1) m) (listed-writes k (countOf n k) 0 (omega arith)) (keys-write m (k + 1))
+  keys-writable zero k = tt
+  keys-writable (suc m) k = writable-append (listed (look k) 0 (countOf n k)) (keysFrom n look (k + 1) m) (listed-writes k (countOf n k) 0 (omega arith)) (keys-writable m (k + 1))
 
-  pub rows-write : WritableRows (bodyRows n look)
+  -- so have those of the body
+  pub rows-writable : WritableRows (bodyRows n look)
   unfolding bodyRows WritableRows
-  rows-write = writable-append (keysFrom n look 0 5) (look key-fn 0 ∷ []) (keys-write 5 0) (good .rows key-fn 0 (inr (refl, refl)) .writable, tt)
+  rows-writable = writable-append (keysFrom n look 0 5) (look key-fn 0 ∷ []) (keys-writable 5 0) (good .rows key-fn 0 (inr (refl, refl)) .writable, tt)
 
   -- an end with the rows, as an answer
   settled : (x : Ended) (rows cells : List ℕ) → Finished x
@@ -656,12 +658,12 @@ module _ (n : Counts) (look : Lookup) (good : WellFormedRows n look) where
   settled (refused x l) rows cells f = absurd f
   settled (read n′ cells′ rows′) rows cells f = (n′, refl, f)
 
-  -- READ-BACK: the text of a good body is accepted, where it has at most 65,536 bytes and the tables are long enough, and the tables have its rows
+  -- READ-BACK: the text of well-formed rows is accepted, where it has at most 65,536 bytes and the tables are long enough, and the tables have the rows
   pub well-formed-read : (rows cells : List ℕ) → rows-length ≤ length rows → cells-length ≤ length cells → length (fileText (bodyRows n look)) ≤ most-bytes
       → (n′ : Counts) × (bodyOf (fileText (bodyRows n look)) rows cells .answer ≡ answer.Body n′)
       × HasRows n look n′ (bodyOf (fileText (bodyRows n look)) rows cells .rows) (bodyOf (fileText (bodyRows n look)) rows cells .cells)
   well-formed-read rows cells hr hc short =
       let s = settled (rowsFrom (bodyRows n look) 1 first (zeros cells) (zeros rows)) rows cells (rows-accepted rows cells hr hc short) in
       let q : bodyOf (fileText (bodyRows n look)) rows cells ≡ settle (rowsFrom (bodyRows n look) 1 first (zeros cells) (zeros rows)) rows cells =
-      file-read (bodyRows n look) rows-write rows cells ∙ body-rows (bodyRows n look) rows cells hr hc short in
+      file-read (bodyRows n look) rows-writable rows cells ∙ body-rows (bodyRows n look) rows cells hr hc short in
       rw q s

@@ -340,10 +340,12 @@ tag-over b =
     at : (b : Bool) (x y : ℕ) → 44 < x → 44 < y → 44 < cond b x y
     at = either (λ (z : ℕ). 44 < z)
 
+-- so is an operator of `bin`
 binary-over : (v : ℕ) → 44 < binaryLetter v
 unfolding binaryLetter
 binary-over v = either (λ (z : ℕ). 44 < z) (eqb v 0) _ _ (omega arith) (either (λ (z : ℕ). 44 < z) (eqb v 1) _ _ (omega arith) (omega arith))
 
+-- and of `un`
 unary-over : (v : ℕ) → 44 < unaryLetter v
 unfolding unaryLetter
 unary-over v =

@@ -176,6 +176,7 @@ pub record FileIs (s : List ℕ) (rs : List Row) (n : Counts) (cells rows : List
   pub rows-long : rows-length ≤ length rows
   pub cells-long : cells-length ≤ length cells
 
+-- every file that is read is the text of rows
 pub file-only : (s rows cells : List ℕ) (n : Counts) → bodyOf s rows cells .answer ≡ answer.Body n
     → (rs : List Row) × FileIs s rs n cells rows (bodyOf s rows cells)
 unfolding bodyOf

@@ -11,5 +11,4 @@ pub mod Rows
 pub mod Linking
 pub mod Accepts
 pub mod Accepted
-pub mod Writing
 pub mod Claims

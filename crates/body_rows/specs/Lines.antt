@@ -28,23 +28,24 @@ use Rattle.body_rows.specs.Fields.{field-read, field-only, field-over, f
 -- ── the table of forms ──
 
 -- each byte is above n, as a test
-unfoldable overb : ℕ → List ℕ → Bool
-overb n [] = true
-overb n (x ∷ xs) = cond (ltb n x) (overb n xs) false
+unfoldable overTest : ℕ → List ℕ → Bool
+overTest n [] = true
+overTest n (x ∷ xs) = cond (ltb n x) (overTest n xs) false
 
-over-true : (n : ℕ) (s : List ℕ) → overb n s ≡ true → Over n s
-unfolding overb Over
+-- the test shows it
+over-true : (n : ℕ) (s : List ℕ) → overTest n s ≡ true → Over n s
+unfolding overTest Over
 over-true n [] e = tt
 over-true n (x ∷ s) e = by (ltb n x) refl e (over-true n s)
   where
-    by : (b : Bool) → ltb n x ≡ b → cond b (overb n s) false ≡ true → (overb n s ≡ true → Over n s) → (n < x) × Over n s
+    by : (b : Bool) → ltb n x ≡ b → cond b (overTest n s) false ≡ true → (overTest n s ≡ true → Over n s) → (n < x) × Over n s
     by true p e ih = (ltb-true n x p, ih e)
     by false p e ih = absurd (false≢true e)
 
 -- the words of forms are letters
 word-over : (f : ℕ) → f < 30 → Over 61 (wordAt f)
-unfolding each forms wordAt overb
-word-over f h = over-true 61 (wordAt f) (each-at 30 (λ (x : ℕ). overb 61 (wordAt x)) f refl h)
+unfolding each forms wordAt overTest
+word-over f h = over-true 61 (wordAt f) (each-at 30 (λ (x : ℕ). overTest 61 (wordAt x)) f refl h)
 
 -- a form's key is one
 pub key-low : (f : ℕ) → f < 30 → keyAt f < 6
@@ -71,6 +72,7 @@ agree true b = b
 agree false true = false
 agree false false = true
 
+-- tests that agree are the same
 pub agree-eq : (a b : Bool) → agree a b ≡ true → a ≡ b
 unfolding agree
 agree-eq true b e = sym e
@@ -83,6 +85,7 @@ unfolding each forms keyAt wordAt hasWord wordKey agree
 word-key f h =
     agree-eq (wordKey (keyAt f)) (hasWord (wordAt f)) (each-at 30 (λ (x : ℕ). agree (wordKey (keyAt x)) (hasWord (wordAt x))) f refl h)
 
+-- by the key the fields begin where they do by the word
 start-by : (k : ℕ) (u v : List ℕ) → wordKey k ≡ hasWord u → startOf k (length v) (before 44 v) ≡ startFor u v
 unfolding startOf startFor wordKey hasWord
 start-by k [] v = by (eqb k key-type) (eqb k key-node)
@@ -98,6 +101,7 @@ start-by k (x ∷ u) v = by (eqb k key-type) (eqb k key-node)
     by false true e = refl
     by false false e = absurd (false≢true e)
 
+-- where the fields of a form's value begin
 start-is : (f : ℕ) (v : List ℕ) → f < 30 → startOf (keyAt f) (length v) (before 44 v) ≡ startFor (wordAt f) v
 start-is f v h = start-by (keyAt f) (wordAt f) v (word-key f h)
 
@@ -176,6 +180,7 @@ unfolding WithoutAll fieldTexts
 texts-without f i [] = tt
 texts-without f i (x ∷ l) = (over-without 44 44 (fieldText (kindAt f i / 16) x) (omega arith) (field-over (kindAt f i / 16) x), texts-without f (i + 1) l)
 
+-- none of them is empty
 texts-filled : (f : Form) (i : ℕ) (l : List Cell) → WritableFrom f i l → Filled (fieldTexts f i l)
 unfolding Filled fieldTexts WritableFrom
 texts-filled f i [] w = tt
@@ -314,8 +319,8 @@ value-only k v f l e = by (ltb (formOf k v) 30) refl e
 
 -- the letters of keys are above the equals sign
 key-over : (k : ℕ) → k < 6 → Over 61 (keyText k)
-unfolding each keyText overb
-key-over k h = over-true 61 (keyText k) (each-at 6 (λ (x : ℕ). overb 61 (keyText x)) k refl h)
+unfolding each keyText overTest
+key-over k h = over-true 61 (keyText k) (each-at 6 (λ (x : ℕ). overTest 61 (keyText x)) k refl h)
 
 -- a key's text is that key
 pub key-read : (k : ℕ) → k < 6 → keyOf (keyText k) ≡ k
@@ -357,16 +362,19 @@ over-join [] n h p = tt
 over-join (s ∷ []) n h p = p .0
 over-join (s ∷ t ∷ ts) n h p = over-append n s (44 ∷ join 44 (t ∷ ts)) (p .0) (h, over-join (t ∷ ts) n h (p .1))
 
+-- nor has a field
 texts-over : (f : Form) (i : ℕ) (l : List Cell) → OverAll 43 (fieldTexts f i l)
 unfolding OverAll fieldTexts
 texts-over f i [] = tt
 texts-over f i (x ∷ l) = (over-less 43 44 (fieldText (kindAt f i / 16) x) (omega arith) (field-over (kindAt f i / 16) x), texts-over f (i + 1) l)
 
+-- nor has a word before them
 lead-over : (u : List ℕ) (ss : List (List ℕ)) → Over 43 u → OverAll 43 ss → OverAll 43 (lead u ss)
 unfolding lead OverAll
 lead-over [] ss p q = q
 lead-over (x ∷ u) ss p q = (p, q)
 
+-- so none has a line
 pub line-over : (r : Row) → r .form < 30 → Over 43 (lineText r)
 unfolding lineText valueText Over
 line-over r h =

@@ -125,6 +125,7 @@ pub record WasMade (r : Row) (st : State) (cells rows : List ℕ) (st′ : State
   pub stored : cellsBehind r st cells ≡ cells′
   pub put : rowsBehind r st levels links ≡ rows′
 
+-- and every step that went well
 pub step-made : (r : Row) (st : State) (cells rows : List ℕ) (st′ : State) (cells′ rows′ : List ℕ) → stepRow r st cells rows ≡ next st′ cells′ rows′
     → WasMade r st cells rows st′ cells′ rows′
 unfolding stepParsed rowParsed judged placed
@@ -159,6 +160,7 @@ module _ (r : Row) (st : State) (cells rows : List ℕ) (e : ℕ) (rows′ : Lis
   key-six : keyAt (r .form) < 6
   key-six = in-order (st .key) (keyAt (r .form)) (m .order) .0
 
+  -- links keep the columns of the rows
   kept : Kept rows rows′
   kept = linked-kept (length (r .cells)) (st .counts) (formAt (r .form)) 0 (st .counts .fields) (cellsBehind r st cells) 0 rows e rows′ (m .links)
 
@@ -175,14 +177,17 @@ module _ (r : Row) (st : State) (cells rows : List ℕ) (e : ℕ) (rows′ : Lis
   column-old j i c b h =
       put-other rows′ (placeOf r st) (r .form) (st .counts .fields) (length (r .cells)) (levelsOver (r .form) e) (baseOf j + i) c b (apart j i h) ∙ kept .1 (baseOf j + i) c b
 
+  -- its form stays,
   form-old : (j i : ℕ) → i < countOf (st .counts) j → formIn (rowsBehind r st e rows′) (baseOf j + i) ≡ formIn rows (baseOf j + i)
   unfolding formIn
   form-old j i h = rw (add-zero ((baseOf j + i) * 5)) at (column-old j i 0 (omega arith) h)
 
+  -- its first field,
   first-old : (j i : ℕ) → i < countOf (st .counts) j → firstIn (rowsBehind r st e rows′) (baseOf j + i) ≡ firstIn rows (baseOf j + i)
   unfolding firstIn
   first-old j i h = column-old j i 1 (omega arith) h
 
+  -- how many it has
   count-old : (j i : ℕ) → i < countOf (st .counts) j → countIn (rowsBehind r st e rows′) (baseOf j + i) ≡ countIn rows (baseOf j + i)
   unfolding countIn
   count-old j i h = column-old j i 2 (omega arith) h

@@ -13,7 +13,8 @@ use Rattle.forms.specs.Form.{key-type, key-def, key-inst, key-bind, key-node, k
 use Rattle.refs.specs.declared.Counts.{Counts}
 use Rattle.body.specs.declared.State.{State}
 use Rattle.body.specs.declared.Answer.the-variants as answer
-use Rattle.body.specs.Body.{most-bytes, first, countOf, baseOf, counted, advance, Stepped, bad, next, firstAhead, refused, read, finishOf, proceed, zeros, bodyOf}
+use Rattle.lex.specs.Text.{partsFrom}
+use Rattle.body.specs.Body.{most-bytes, rows-length, cells-length, Ended, linesFrom, Held, held, settle, first, countOf, baseOf, counted, advance, Stepped, bad, next, firstAhead, refused, read, finishOf, proceed, zeros, bodyOf}
 use Rattle.well_formed.specs.Counting.{counted-own}
 use Rattle.well_formed.specs.Bytes.{Enough}
 use Rattle.well_formed.specs.Reading.{Reading}
@@ -26,11 +27,13 @@ use Rattle.body_rows.specs.Steps.{cellsBehind, placeOf, rowsBehind, stat
 
 -- ── lists of rows ──
 
+-- rows that are alike are listed alike
 pub listed-same : (f g : ℕ → Row) (i m : ℕ) → ((x : ℕ) → x < i + m → f x ≡ g x) → listed f i m ≡ listed g i m
 unfolding listed
 listed-same f g i zero h = refl
 listed-same f g i (suc m) h = rw (h i (omega arith), listed-same f g (i + 1) m (λ x b. h x (omega arith)))
 
+-- the last of m + 1 rows
 listed-snoc : (f : ℕ → Row) (i m : ℕ) → listed f i (suc m) ≡ listed f i m ++ (f (i + m) ∷ [])
 unfolding listed
 listed-snoc f i zero = ap (λ (x : ℕ). f x ∷ []) {x = i} {y = i + 0} (omega arith)
@@ -252,3 +255,25 @@ pub text-of-read : (s rows cells : List ℕ) (n : Counts) → bodyOf s rows cell
     → fileTextIn n (bodyOf s rows cells .rows) (bodyOf s rows cells .cells) ≡ s
 unfolding fileTextIn
 text-of-read s rows cells n e = rows-of-read s rows cells n e .file
+
+-- what stands in the lent tables does not count: a file that is read is read alike over others of the same lengths
+pub lent-same : (s rows cells : List ℕ) (n : Counts) → bodyOf s rows cells .answer ≡ answer.Body n
+    → (rows′ cells′ : List ℕ) → length rows′ ≡ length rows → length cells′ ≡ length cells → bodyOf s rows′ cells′ ≡ bodyOf s rows cells
+unfolding bodyOf
+lent-same s rows cells n e rows′ cells′ p q = rw (p, q) (by (ltb most-bytes (length s)) (ltb (length rows) rows-length) (ltb (length cells) cells-length) e)
+  where
+    whole : Ended
+    whole = linesFrom (partsFrom 10 0 s) 1 first (zeros cells) (zeros rows)
+
+    file : (a b c : Bool) → List ℕ → List ℕ → Held
+    file a b c r f = cond a (held answer.TooLong r f) (cond b (held answer.ShortTable r f) (cond c (held answer.ShortTable r f) (settle whole r f)))
+
+    end : (x : Ended) → settle x rows cells .answer ≡ answer.Body n → settle x rows′ cells′ ≡ settle x rows cells
+    end (refused x l) e = let z : _≡_ {A = ℕ} 0 1 = cc in absurd (omega arith)
+    end (read m cells″ rows″) e = refl
+
+    by : (a b c : Bool) → file a b c rows cells .answer ≡ answer.Body n → file a b c rows′ cells′ ≡ file a b c rows cells
+    by true b c e = let z : _≡_ {A = ℕ} 0 1 = cc in absurd (omega arith)
+    by false true c e = let z : _≡_ {A = ℕ} 0 1 = cc in absurd (omega arith)
+    by false false true e = let z : _≡_ {A = ℕ} 0 1 = cc in absurd (omega arith)
+    by false false false e = end whole e

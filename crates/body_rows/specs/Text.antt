@@ -31,7 +31,7 @@ unfoldable pub tagLetter : ℕ → ℕ
 tagLetter b =
     cond (eqb b 1) (code "l") (cond (eqb b 2) (code "f") (cond (eqb b 3) (code "c") (cond (eqb b 4) (code "i") (cond (eqb b 5) (code "e") (code "o")))))
 
--- RES
+-- RES: the letter of its tag, and a number behind l f c i
 unfoldable pub resolutionText : ℕ → ℕ → List ℕ
 resolutionText tag v = tagLetter tag ∷ cond (leb tag 4) (numberText v) []
 
@@ -58,6 +58,7 @@ pub record Row : Type 0 where
   pub form : ℕ
   pub cells : List Cell
 
+-- the row of a form and cells
 abbrev pub row : ℕ → List Cell → Row
 row f l = record { form = f; cells = l }
 
@@ -83,7 +84,7 @@ lead (x ∷ u) ss = (x ∷ u) ∷ ss
 unfoldable pub valueText : Row → List ℕ
 valueText r = join 44 (lead (wordAt (r .form)) (fieldTexts (formAt (r .form)) 0 (r .cells)))
 
--- a key
+-- the text of a key
 unfoldable pub keyText : ℕ → List ℕ
 keyText k =
     cond (eqb k key-type) (text "type")
@@ -120,7 +121,7 @@ bodyRows n look = keysFrom n look 0 5 ++ (look key-fn 0 ∷ [])
 
 -- ── the rows of tables ──
 
--- m fields from the field j on
+-- the cells of m fields from the field j on
 unfoldable pub cellsAt : List ℕ → ℕ → ℕ → List Cell
 cellsAt cells j zero = []
 cellsAt cells j (suc m) = cell (nameIn cells j) (tagIn cells j) (valueIn cells j) ∷ cellsAt cells (j + 1) m
@@ -129,17 +130,17 @@ cellsAt cells j (suc m) = cell (nameIn cells j) (tagIn cells j) (valueIn cells j
 unfoldable pub rowAt : List ℕ → List ℕ → ℕ → Row
 rowAt rows cells r = row (formIn rows r) (cellsAt cells (firstIn rows r) (countIn rows r))
 
--- those of tables
+-- the rows of tables, by key and number
 abbrev pub lookupIn : List ℕ → List ℕ → Lookup
 lookupIn rows cells k i = rowAt rows cells (baseOf k + i)
 
--- the text of tables
+-- the text of the file whose tables these are
 unfoldable pub fileTextIn : Counts → List ℕ → List ℕ → List ℕ
 fileTextIn n rows cells = fileText (bodyRows n (lookupIn rows cells))
 
 -- ── which rows have a text ──
 
--- the largest number of a body
+-- the largest number that a body may have
 abbrev pub most-number : ℕ
 most-number = 65535
 

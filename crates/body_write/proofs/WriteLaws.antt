@@ -11,12 +11,12 @@ use Rattle.lex.specs.Text.{text}
 use Rattle.forms.specs.declared.Form.{Form}
 use Rattle.forms.specs.Form.{cell, kindAt, formAt, forms, no-form}
 use Rattle.refs.specs.declared.Counts.{Counts}
-use Rattle.refs.specs.Refs.{nameIn, tagIn, valueIn, formIn, firstIn, countIn}
+use Rattle.refs.specs.Refs.{nodes-at, fn-at, nameIn, tagIn, valueIn, formIn, firstIn, countIn}
 use Rattle.output.specs.declared.Ending.{Ending}
 use Rattle.output.specs.Output.{textsTo, Appends, Finishes, output, ended, newline}
 use Rattle.output.specs.Appending.{append-none, then, appends-as, whole}
 use Rattle.body_rows.specs.Text.{tagLetter, resolutionText, fieldText, row, keyAt, wordAt, keyText, lineText, cellsAt, rowAt, fileTextIn}
-use Rattle.body_rows.specs.Writing.{fieldTextAt, behindComma, bareFields, isWorded, headText, valuesText, rowLine, rowLines, declarationLines, bodyLines, line-parts, text-lines}
+use Rattle.body_write.specs.Writing.{fieldTextAt, behindComma, bareFields, isWorded, headText, valuesText, rowLine, rowLines, declarationLines, bodyLines, line-parts, text-lines}
 
 -- ── fields ──
 
@@ -87,8 +87,8 @@ unfolding rowLine rowAt
 at-as rows cells p f j m u v w a = rw (← u, ← v, ← w) a
 
 -- the whole text
-pub body-as : {c d e : ℕ} {x y z : List ℕ} {u : List ℕ} {r : Ending} (n : Counts) (rows cells : List ℕ) → Appends (declarationLines n rows cells) 0 x c y → Appends (rowLines rows cells 896 (n .nodes)) c y d z
-    → Appends (rowLine rows cells 1920) d z e u → {v : List ℕ} → Finishes e u r v → output r v ≡ ended (fileTextIn n rows cells) x
+pub body-as : {c d e : ℕ} {x y z : List ℕ} {u : List ℕ} {r : Ending} (n : Counts) (rows cells : List ℕ) → Appends (declarationLines n rows cells) 0 x c y → Appends (rowLines rows cells nodes-at (n .nodes)) c y d z
+    → Appends (rowLine rows cells fn-at) d z e u → {v : List ℕ} → Finishes e u r v → output r v ≡ ended (fileTextIn n rows cells) x
 unfolding bodyLines
 body-as {x = x} n rows cells p q r f = whole (then (then p q) r) f ∙ ap (λ (t : List ℕ). ended t x) (text-lines n rows cells)
 

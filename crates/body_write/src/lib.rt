@@ -3,9 +3,10 @@ ghost use mathlib.Core.Path.{_≡_};
 ghost use mathlib.Core.List.{_++_, _∷_, []};
 ghost use Prim.Native.Nat.{_+_, _≤_, _<_};
 ghost use Rattle.forms.specs.Form.{cell as cell·T};
+ghost use Rattle.refs.specs.Refs.{fn-at};
 ghost use Rattle.output.specs.Output.{Appends, numberText, newline, textsTo, output as output·T, ended};
 ghost use Rattle.body_rows.specs.Text.{binaryLetter, unaryLetter, resolutionText, fieldText, row, lineText, cellsAt, fileTextIn};
-ghost use Rattle.body_rows.specs.Writing.{optionalText, isWorded, headText, fieldTextAt, behindComma, valuesText, rowLine, rowLines, declarationLines};
+ghost use Rattle.body_write.specs.Writing.{optionalText, isWorded, headText, fieldTextAt, behindComma, valuesText, rowLine, rowLines, declarationLines};
 use forms::Form;
 use output::Ending;
 use refs::Counts;
@@ -288,13 +289,14 @@ fn put_at(out: &mut [u8], c: usize, rows: &[u16], cells: &[u16], p: u32) -> usiz
 // ── a body ──
 
 // The lines of n rows from the place p on.
-fn put_rows(out: &mut [u8], c: usize, rows: &[u16], cells: &[u16], p: u16, n: u16) -> usize
+fn put_rows(out: &mut [u8], c: usize, rows: &[u16], cells: &[u16], p: u32, n: u16) -> usize
+    requires { ⌜ p ≤ fn-at ⌝ }
     ensures { λ r. ⌜ Appends (rowLines (now (rows .entry)) (now (cells .entry)) p n) c (now (out .entry)) r (now (out .exit)) ⌝ }
 {
     let mut d = c;
     let mut i: u16 = 0;
     while i < n {
-        d = put_at(out, d, rows, cells, p as u32 + i as u32);
+        d = put_at(out, d, rows, cells, p + i as u32);
         i += 1;
     }
     d
@@ -308,10 +310,10 @@ fn put_declarations(out: &mut [u8], rows: &[u16], cells: &[u16], n: Counts) -> u
     let d = n.defs;
     let k = n.insts;
     let b = n.binds;
-    let c0 = put_rows(out, 0, rows, cells, 0, t);
-    let c1 = put_rows(out, c0, rows, cells, 512, d);
-    let c2 = put_rows(out, c1, rows, cells, 768, k);
-    put_rows(out, c2, rows, cells, 832, b)
+    let c0 = put_rows(out, 0, rows, cells, refs::TYPES_AT, t);
+    let c1 = put_rows(out, c0, rows, cells, refs::DEFS_AT, d);
+    let c2 = put_rows(out, c1, rows, cells, refs::INSTS_AT, k);
+    put_rows(out, c2, rows, cells, refs::BINDS_AT, b)
 }
 
 // The text of a body's tables into an output of any length: where it ends; without room for it the output is zero throughout.
@@ -320,7 +322,7 @@ pub fn write_body(out: &mut [u8], rows: &[u16], cells: &[u16], n: Counts) -> End
 {
     let c = put_declarations(out, rows, cells, n);
     let m = n.nodes;
-    let d = put_rows(out, c, rows, cells, 896, m);
-    let e = put_at(out, d, rows, cells, 1920);
+    let d = put_rows(out, c, rows, cells, refs::NODES_AT, m);
+    let e = put_at(out, d, rows, cells, refs::FN_AT);
     output::finish(out, e)
 }

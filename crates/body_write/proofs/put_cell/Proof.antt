@@ -16,4 +16,4 @@ put-cell-spec =
     (λ c κs. search needs)
     (λ c κs. search needs)
     (λ c. search needs)
-    (λ c. cell-as _ _ _ _ _ _ _ _ _ ((c .before .before .before .before .before .before .before .kind-at .ensures)) refl ((c .before .before .before .before .before .before .name-of .ensures)) ((c .before .before .before .before .before .tag-of .ensures)) ((c .before .before .before .before .value-of .ensures)) ((c .before .before .put-way .ensures))))
+    (λ c. cell-as _ _ _ _ _ _ _ _ _ (c .before .before .before .before .before .before .before .kind-at .ensures) refl (c .before .before .before .before .before .before .name-of .ensures) (c .before .before .before .before .before .tag-of .ensures) (c .before .before .before .before .value-of .ensures) (c .before .before .put-way .ensures)))

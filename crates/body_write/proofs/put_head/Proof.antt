@@ -25,4 +25,4 @@ put-head-spec =
     (λ c. search needs)
     (λ c κs. search needs)
     (λ c. search needs)
-    (λ c. appends-as (head-other _ ((c .before .before .before .before .before .if5 .left))) ((c .before .before .put-all .ensures))))
+    (λ c. appends-as (head-other _ (c .before .before .before .before .before .if5 .left)) (c .before .before .put-all .ensures)))

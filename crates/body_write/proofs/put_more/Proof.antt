@@ -4,7 +4,7 @@ use mathlib.Core.Path.{_≡_, refl, _∙_}
 use Prim.Native.Nat.{_≤_, _-_}
 use lib.ListN.{length}
 use Rattle.output.specs.Output.{textsTo, Appends}
-use Rattle.body_rows.specs.Writing.{behindComma}
+use Rattle.body_write.specs.Writing.{behindComma}
 use Rattle.body_write.proofs.put_more.Statement.{statement}
 use Rattle.body_write.proofs.put_more.Tie as tie
 
@@ -23,6 +23,6 @@ put-more-spec =
     (λ c κs. search needs)
     (λ c. search needs)
     (λ c. search needs)
-    (λ c. (texts-next _ _ ((c .before .before .before .before .before .loop .inv .0)) ((c .before .before .put-next .ensures)), search needs, ((c .before .before .put-next .kept .0)) ∙ ((c .before .before .before .before .before .loop .inv .2))))
+    (λ c. (texts-next _ _ (c .before .before .before .before .before .loop .inv .0) (c .before .before .put-next .ensures), search needs, (c .before .before .put-next .kept .0) ∙ (c .before .before .before .before .before .loop .inv .2)))
     (λ c. (c .before .loop .inv .2))
-    (λ c. texts-all _ _ _ ((c .before .loop .inv .1)) ((c .loop-test .left)) ((c .before .loop .inv .0))))
+    (λ c. texts-all _ _ _ (c .before .loop .inv .1) (c .loop-test .left) (c .before .loop .inv .0)))

@@ -4,7 +4,7 @@ use mathlib.Core.Path.{_≡_, refl, _∙_}
 use Prim.Native.Nat.{_≤_, _-_, _+_}
 use lib.ListN.{length}
 use Rattle.output.specs.Output.{textsTo, Appends}
-use Rattle.body_rows.specs.Writing.{rowLine}
+use Rattle.body_write.specs.Writing.{rowLine}
 use Rattle.body_write.proofs.put_rows.Statement.{statement}
 use Rattle.body_write.proofs.put_rows.Tie as tie
 
@@ -25,6 +25,6 @@ put-rows-spec =
     (λ c κs. search needs)
     (λ c. search needs)
     (λ c. search needs)
-    (λ c. (texts-next (λ i. rowLine ((c .before .before .before .before .before .before .before .before .before .args .rows .now)) ((c .before .before .before .before .before .before .before .before .before .args .cells .now)) ((c .before .before .before .before .before .before .before .before .before .args .p) + i)) _ ((c .before .before .before .before .before .loop .inv .0)) ((c .before .before .put-at .ensures)), search needs, ((c .before .before .put-at .kept .0)) ∙ ((c .before .before .before .before .before .loop .inv .2))))
+    (λ c. (texts-next (λ i. rowLine (c .before .before .before .before .before .before .before .before .before .args .rows .now) (c .before .before .before .before .before .before .before .before .before .args .cells .now) ((c .before .before .before .before .before .before .before .before .before .args .p) + i)) _ (c .before .before .before .before .before .loop .inv .0) (c .before .before .put-at .ensures), search needs, (c .before .before .put-at .kept .0) ∙ (c .before .before .before .before .before .loop .inv .2)))
     (λ c. (c .before .loop .inv .2))
-    (λ c. texts-all (λ i. rowLine ((c .before .before .before .before .before .args .rows .now)) ((c .before .before .before .before .before .args .cells .now)) ((c .before .before .before .before .before .args .p) + i)) _ _ ((c .before .loop .inv .1)) ((c .loop-test .left)) ((c .before .loop .inv .0))))
+    (λ c. texts-all (λ i. rowLine (c .before .before .before .before .before .args .rows .now) (c .before .before .before .before .before .args .cells .now) ((c .before .before .before .before .before .args .p) + i)) _ _ (c .before .loop .inv .1) (c .loop-test .left) (c .before .loop .inv .0)))

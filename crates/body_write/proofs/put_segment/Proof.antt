@@ -11,4 +11,4 @@ put-segment-spec =
     (λ c κs. search needs)
     (λ c κs. search needs)
     (λ c. search needs)
-    (λ c. pair-as (numberText ((c .before .before .before .before .before .before .before .before .before .args .a))) (resolutionText ((c .before .before .before .before .before .before .before .before .before .args .tag)) ((c .before .before .before .before .before .before .before .before .before .args .v))) ((c .before .before .before .before .before .before .put-name .ensures)) ((c .before .before .put-res .ensures))))
+    (λ c. pair-as (numberText (c .before .before .before .before .before .before .before .before .before .args .a)) (resolutionText (c .before .before .before .before .before .before .before .before .before .args .tag) (c .before .before .before .before .before .before .before .before .before .args .v)) (c .before .before .before .before .before .before .put-name .ensures) (c .before .before .put-res .ensures)))

@@ -13,11 +13,11 @@ use borrow.Author.Tests.{ltb-true, ltb-false, le-ltb}
 use Rattle.forms.specs.declared.Form.{Form}
 use Rattle.forms.specs.Form.{LineForm, cell, formAt, kindAt, forms, no-form}
 use Rattle.refs.specs.declared.Counts.{Counts}
-use Rattle.refs.specs.Refs.{nameIn, tagIn, valueIn}
+use Rattle.refs.specs.Refs.{types-at, defs-at, insts-at, binds-at, nodes-at, fn-at, nameIn, tagIn, valueIn}
 use Rattle.output.specs.Output.{numberText, newline, textsTo}
 use Rattle.well_formed.specs.Counting.{each, each-at}
 use Rattle.body_rows.specs.Text.{fieldText, join, Row, row, keyAt, wordAt, fieldTexts, lead, valueText, keyText, lineText, fileText, listed, keysFrom, bodyRows, cellsAt, rowAt, lookupIn, fileTextIn}
 use Rattle.body_rows.specs.Lines.{hasWord, agree, agree-eq}
 use Rattle.body.specs.Body.{countOf, baseOf}
 
 -- a number, or `-`
@@ -64,6 +64,7 @@ texts-cons g (suc n) =
     ∙ append-assoc (g 0) (textsTo (λ i. g (i + 1)) n) (g (suc n))
     ∙ ap (λ (x : ℕ). g 0 ++ (textsTo (λ i. g (i + 1)) n ++ g x)) {x = suc n} {y = n + 1} (omega arith)
 
+-- texts that are alike, one behind the other
 pub texts-same : (g h : ℕ → List ℕ) (n : ℕ) → ((i : ℕ) → i < n → g i ≡ h i) → textsTo g n ≡ textsTo h n
 unfolding textsTo
 texts-same g h zero e = refl
@@ -122,6 +123,7 @@ past-word : (f : ℕ) → 30 ≤ f → wordAt f ≡ []
 unfolding wordAt forms
 past-word f h = ap (λ (x : LineForm). x .word) (List·getD-eq-default forms no-form {n = f} h)
 
+-- the code's test of a form's word is right
 word-is : (f : ℕ) → isWorded f ≡ hasWord (wordAt f)
 unfolding each forms wordAt hasWord isWorded agree
 word-is f = by (ltb f 30) refl
@@ -155,17 +157,19 @@ rowLines rows cells p n = textsTo (λ i. rowLine rows cells (p + i)) n
 
 -- the declarations
 unfoldable pub declarationLines : Counts → List ℕ → List ℕ → List ℕ
-declarationLines n rows cells = rowLines rows cells 0 (n .types) ++ rowLines rows cells 512 (n .defs) ++ rowLines rows cells 768 (n .insts) ++ rowLines rows cells 832 (n .binds)
+declarationLines n rows cells = rowLines rows cells types-at (n .types) ++ rowLines rows cells defs-at (n .defs) ++ rowLines rows cells insts-at (n .insts) ++ rowLines rows cells binds-at (n .binds)
 
 -- the whole
 unfoldable pub bodyLines : Counts → List ℕ → List ℕ → List ℕ
-bodyLines n rows cells = declarationLines n rows cells ++ rowLines rows cells 896 (n .nodes) ++ rowLine rows cells 1920
+bodyLines n rows cells = declarationLines n rows cells ++ rowLines rows cells nodes-at (n .nodes) ++ rowLine rows cells fn-at
 
+-- the text of rows and other rows
 file-append : (rs ss : List Row) → fileText (rs ++ ss) ≡ fileText rs ++ fileText ss
 unfolding fileText
 file-append [] ss = refl
 file-append (r ∷ rs) ss = ap (λ (t : List ℕ). lineText r ++ 10 ∷ t) (file-append rs ss) ∙ sym (append-assoc (lineText r) (10 ∷ fileText rs) (fileText ss))
 
+-- the text of listed rows
 file-listed : (f : ℕ → Row) (i m : ℕ) → fileText (listed f i m) ≡ textsTo (λ x. lineText (f (i + x)) ++ newline) m
 unfolding fileText listed textsTo
 file-listed f i zero = refl
@@ -209,5 +213,5 @@ text-lines n rows cells = sym (
     K : ℕ → ℕ → List Row
     K k m = listed (lookupIn rows cells k) 0 m
 
-    last : fileText (lookupIn rows cells 5 0 ∷ []) ≡ rowLine rows cells 1920
+    last : fileText (lookupIn rows cells 5 0 ∷ []) ≡ rowLine rows cells fn-at
     last = unfold fileText rowLine in refl
