@@ -13,7 +13,8 @@ use Rattle.forms.specs.Form.{cell, kindAt, formAt, forms, no-form}
 use Rattle.refs.specs.declared.Counts.{Counts}
 use Rattle.refs.specs.Refs.{nodes-at, fn-at, nameIn, tagIn, valueIn, formIn, firstIn, countIn}
 use Rattle.output.specs.declared.Ending.{Ending}
-use Rattle.output.specs.Output.{textsTo, Appends, Finishes, output, ended, newline}
+use Rattle.table_cells.specs.Rows.{cellsTo}
+use Rattle.output.specs.Output.{Appends, Finishes, output, ended, newline}
 use Rattle.output.specs.Appending.{append-none, then, appends-as, whole}
 use Rattle.body_rows.specs.Text.{tagLetter, resolutionText, fieldText, row, keyAt, wordAt, keyText, lineText, cellsAt, rowAt, fileTextIn}
 use Rattle.body_write.specs.Writing.{fieldTextAt, behindComma, bareFields, isWorded, headText, valuesText, rowLine, rowLines, declarationLines, bodyLines, line-parts, text-lines}
@@ -61,7 +62,7 @@ head-other f h = by (ltb f 30) refl
 
 module _ (f : ℕ) (cells : List ℕ) (j m : ℕ) (g : Form) (w : Bool) (p : g ≡ formAt f) (q : w ≡ isWorded f) where
   -- behind a word
-  pub values-worded : {c d : ℕ} {x y : List ℕ} → w ≡ true → Appends (textsTo (behindComma g cells j 0) m) c x d y → Appends (valuesText f cells j m) c x d y
+  pub values-worded : {c d : ℕ} {x y : List ℕ} → w ≡ true → Appends (cellsTo (behindComma g cells j 0) m) c x d y → Appends (valuesText f cells j m) c x d y
   unfolding valuesText
   values-worded t a = rw (← q, t, ← p) a
 
@@ -71,7 +72,7 @@ module _ (f : ℕ) (cells : List ℕ) (j m : ℕ) (g : Form) (w : Bool) (p : g �
   values-none {c = c} {x = x} t e = rw (← q, t, e) (append-none c x)
 
   -- one, and others
-  pub values-bare : {c d : ℕ} {x y : List ℕ} {b : ℕ} {z : List ℕ} → w ≡ false → (m ≡ 0 → ⊥) → Appends (fieldTextAt g cells j 0) c x b z → Appends (textsTo (behindComma g cells j 1) (m - 1)) b z d y → Appends (valuesText f cells j m) c x d y
+  pub values-bare : {c d : ℕ} {x y : List ℕ} {b : ℕ} {z : List ℕ} → w ≡ false → (m ≡ 0 → ⊥) → Appends (fieldTextAt g cells j 0) c x b z → Appends (cellsTo (behindComma g cells j 1) (m - 1)) b z d y → Appends (valuesText f cells j m) c x d y
   unfolding valuesText bareFields
   values-bare {c = c} {d = d} {x = x} {y = y} t n a r = let e : m ≡ suc (m - 1) = omega (arith, n) in rw (← q, t, ← p) (subst (λ (k : ℕ). Appends (bareFields g cells j k) c x d y) (sym e) (then a r))
 

@@ -14,7 +14,8 @@ use Rattle.forms.specs.declared.Form.{Form}
 use Rattle.forms.specs.Form.{LineForm, cell, formAt, kindAt, forms, no-form}
 use Rattle.refs.specs.declared.Counts.{Counts}
 use Rattle.refs.specs.Refs.{types-at, defs-at, insts-at, binds-at, nodes-at, fn-at, nameIn, tagIn, valueIn}
-use Rattle.output.specs.Output.{numberText, newline, textsTo}
+use Rattle.table_cells.specs.Rows.{cellsTo, cells-ext}
+use Rattle.output.specs.Output.{numberText, newline}
 use Rattle.well_formed.specs.Counting.{each, each-at}
 use Rattle.body_rows.specs.Text.{fieldText, join, Row, row, keyAt, wordAt, fieldTexts, lead, valueText, keyText, lineText, fileText, listed, keysFrom, bodyRows, cellsAt, rowAt, lookupIn, fileTextIn}
 use Rattle.body_rows.specs.Lines.{hasWord, agree, agree-eq}
@@ -43,11 +44,11 @@ behindComma f cells j a i = 44 ∷ fieldTextAt f cells j (a + i)
 -- the fields of a row without a word
 unfoldable pub bareFields : Form → List ℕ → ℕ → ℕ → List ℕ
 bareFields f cells j zero = []
-bareFields f cells j (suc m) = fieldTextAt f cells j 0 ++ textsTo (behindComma f cells j 1) m
+bareFields f cells j (suc m) = fieldTextAt f cells j 0 ++ cellsTo (behindComma f cells j 1) m
 
 -- the fields of a row
 unfoldable pub valuesText : ℕ → List ℕ → ℕ → ℕ → List ℕ
-valuesText f cells j m = cond (isWorded f) (textsTo (behindComma (formAt f) cells j 0) m) (bareFields (formAt f) cells j m)
+valuesText f cells j m = cond (isWorded f) (cellsTo (behindComma (formAt f) cells j 0) m) (bareFields (formAt f) cells j m)
 
 -- the line of the row at a place
 unfoldable pub rowLine : List ℕ → List ℕ → ℕ → List ℕ
@@ -56,19 +57,13 @@ rowLine rows cells p = lineText (rowAt rows cells p) ++ newline
 -- ── laws ──
 
 -- the first of some texts
-texts-cons : (g : ℕ → List ℕ) (n : ℕ) → textsTo g (suc n) ≡ g 0 ++ textsTo (λ i. g (i + 1)) n
-unfolding textsTo
-texts-cons g zero = sym (append-nil (g 0))
-texts-cons g (suc n) =
-    ap (λ (t : List ℕ). t ++ g (suc n)) (texts-cons g n)
-    ∙ append-assoc (g 0) (textsTo (λ i. g (i + 1)) n) (g (suc n))
-    ∙ ap (λ (x : ℕ). g 0 ++ (textsTo (λ i. g (i + 1)) n ++ g x)) {x = suc n} {y = n + 1} (omega arith)
-
--- texts that are alike, one behind the other
-pub texts-same : (g h : ℕ → List ℕ) (n : ℕ) → ((i : ℕ) → i < n → g i ≡ h i) → textsTo g n ≡ textsTo h n
-unfolding textsTo
-texts-same g h zero e = refl
-texts-same g h (suc n) e = rw (texts-same g h n (λ i l. e i (omega arith)), e n (omega arith))
+rows-cons : (g : ℕ → List ℕ) (n : ℕ) → cellsTo g (suc n) ≡ g 0 ++ cellsTo (λ i. g (i + 1)) n
+unfolding cellsTo
+rows-cons g zero = sym (append-nil (g 0))
+rows-cons g (suc n) =
+    ap (λ (t : List ℕ). t ++ g (suc n)) (rows-cons g n)
+    ∙ append-assoc (g 0) (cellsTo (λ i. g (i + 1)) n) (g (suc n))
+    ∙ ap (λ (x : ℕ). g 0 ++ (cellsTo (λ i. g (i + 1)) n ++ g x)) {x = suc n} {y = n + 1} (omega arith)
 
 -- parts each behind a comma
 unfoldable commas : List (List ℕ) → List ℕ
@@ -82,18 +77,18 @@ join-commas s [] = sym (append-nil s)
 join-commas s (t ∷ ts) = ap (λ (u : List ℕ). s ++ 44 ∷ u) (join-commas t ts)
 
 -- the fields of cells, each behind a comma
-commas-texts : (f : Form) (cells : List ℕ) (j a n : ℕ) → commas (fieldTexts f a (cellsAt cells (j + a) n)) ≡ textsTo (behindComma f cells j a) n
+commas-rows : (f : Form) (cells : List ℕ) (j a n : ℕ) → commas (fieldTexts f a (cellsAt cells (j + a) n)) ≡ cellsTo (behindComma f cells j a) n
 unfolding commas fieldTexts cellsAt
-commas-texts f cells j a zero = none
+commas-rows f cells j a zero = none
   where
-    none : [] ≡ textsTo (behindComma f cells j a) zero
-    none = unfold textsTo in refl
-commas-texts f cells j a (suc n) =
+    none : [] ≡ cellsTo (behindComma f cells j a) zero
+    none = unfold cellsTo in refl
+commas-rows f cells j a (suc n) =
     ap (λ (t : List ℕ). (44 ∷ fieldText (kindAt f a / 16) (cell (nameIn cells (j + a)) (tagIn cells (j + a)) (valueIn cells (j + a)))) ++ t)
-    (ap (λ (x : ℕ). commas (fieldTexts f (a + 1) (cellsAt cells x n))) {x = j + a + 1} {y = j + (a + 1)} (omega arith) ∙ commas-texts f cells j (a + 1) n
-    ∙ texts-same (behindComma f cells j (a + 1)) (λ i. behindComma f cells j a (i + 1)) n (λ i l. shift i))
-    ∙ ap (λ (t : List ℕ). t ++ textsTo (λ i. behindComma f cells j a (i + 1)) n) first
-    ∙ sym (texts-cons (behindComma f cells j a) n)
+    (ap (λ (x : ℕ). commas (fieldTexts f (a + 1) (cellsAt cells x n))) {x = j + a + 1} {y = j + (a + 1)} (omega arith) ∙ commas-rows f cells j (a + 1) n
+    ∙ cells-ext (behindComma f cells j (a + 1)) (λ i. behindComma f cells j a (i + 1)) n (λ i l. shift i))
+    ∙ ap (λ (t : List ℕ). t ++ cellsTo (λ i. behindComma f cells j a (i + 1)) n) first
+    ∙ sym (rows-cons (behindComma f cells j a) n)
   where
     shift : (i : ℕ) → behindComma f cells j (a + 1) i ≡ behindComma f cells j a (i + 1)
     shift i = unfold behindComma in (ap (λ (x : ℕ). 44 ∷ fieldTextAt f cells j x) {x = a + 1 + i} {y = a + (i + 1)} (omega arith))
@@ -110,8 +105,8 @@ bare-join f cells j zero = none
     none = unfold join in refl
 bare-join f cells j (suc m) =
     join-commas (fieldText (kindAt f 0 / 16) (cell (nameIn cells j) (tagIn cells j) (valueIn cells j))) (fieldTexts f (0 + 1) (cellsAt cells (j + 1) m))
-    ∙ ap (λ (t : List ℕ). fieldText (kindAt f 0 / 16) (cell (nameIn cells j) (tagIn cells j) (valueIn cells j)) ++ t) (commas-texts f cells j 1 m)
-    ∙ ap (λ (t : List ℕ). t ++ textsTo (behindComma f cells j 1) m) first
+    ∙ ap (λ (t : List ℕ). fieldText (kindAt f 0 / 16) (cell (nameIn cells j) (tagIn cells j) (valueIn cells j)) ++ t) (commas-rows f cells j 1 m)
+    ∙ ap (λ (t : List ℕ). t ++ cellsTo (behindComma f cells j 1) m) first
   where
     first : fieldText (kindAt f 0 / 16) (cell (nameIn cells j) (tagIn cells j) (valueIn cells j)) ≡ fieldTextAt f cells j 0
     first = unfold fieldTextAt in (ap (λ (x : ℕ). fieldText (kindAt f 0 / 16) (cell (nameIn cells x) (tagIn cells x) (valueIn cells x))) {x = j} {y = j + 0} (omega arith))
@@ -140,7 +135,7 @@ unfolding lead hasWord valuesText
 value-parts f [] cells j m e = rw e (bare-join (formAt f) cells j m)
 value-parts f (x ∷ u) cells j m e =
     join-commas (x ∷ u) (fieldTexts (formAt f) 0 (cellsAt cells j m))
-    ∙ ap (λ (t : List ℕ). (x ∷ u) ++ t) (ap (λ (y : ℕ). commas (fieldTexts (formAt f) 0 (cellsAt cells y m))) {x = j} {y = j + 0} (omega arith) ∙ commas-texts (formAt f) cells j 0 m ∙ rw e)
+    ∙ ap (λ (t : List ℕ). (x ∷ u) ++ t) (ap (λ (y : ℕ). commas (fieldTexts (formAt f) 0 (cellsAt cells y m))) {x = j} {y = j + 0} (omega arith) ∙ commas-rows (formAt f) cells j 0 m ∙ rw e)
 
 -- the line of a row
 pub line-parts : (f : ℕ) (cells : List ℕ) (j m : ℕ) → headText f ++ valuesText f cells j m ≡ lineText (row f (cellsAt cells j m))
@@ -153,7 +148,7 @@ line-parts f cells j m =
 
 -- n rows from the place p on
 abbrev pub rowLines : List ℕ → List ℕ → ℕ → ℕ → List ℕ
-rowLines rows cells p n = textsTo (λ i. rowLine rows cells (p + i)) n
+rowLines rows cells p n = cellsTo (λ i. rowLine rows cells (p + i)) n
 
 -- the declarations
 unfoldable pub declarationLines : Counts → List ℕ → List ℕ → List ℕ
@@ -170,14 +165,14 @@ file-append [] ss = refl
 file-append (r ∷ rs) ss = ap (λ (t : List ℕ). lineText r ++ 10 ∷ t) (file-append rs ss) ∙ sym (append-assoc (lineText r) (10 ∷ fileText rs) (fileText ss))
 
 -- the text of listed rows
-file-listed : (f : ℕ → Row) (i m : ℕ) → fileText (listed f i m) ≡ textsTo (λ x. lineText (f (i + x)) ++ newline) m
-unfolding fileText listed textsTo
+file-listed : (f : ℕ → Row) (i m : ℕ) → fileText (listed f i m) ≡ cellsTo (λ x. lineText (f (i + x)) ++ newline) m
+unfolding fileText listed cellsTo
 file-listed f i zero = refl
 file-listed f i (suc m) =
-    ap (λ (t : List ℕ). lineText (f i) ++ 10 ∷ t) (file-listed f (i + 1) m ∙ texts-same (λ x. lineText (f (i + 1 + x)) ++ newline) (λ x. lineText (f (i + (x + 1))) ++ newline) m (λ x l. shift x))
-    ∙ sym (append-assoc (lineText (f i)) newline (textsTo (λ x. lineText (f (i + (x + 1))) ++ newline) m))
-    ∙ ap (λ (y : ℕ). (lineText (f y) ++ newline) ++ textsTo (λ x. lineText (f (i + (x + 1))) ++ newline) m) {x = i} {y = i + 0} (omega arith)
-    ∙ sym (texts-cons (λ x. lineText (f (i + x)) ++ newline) m)
+    ap (λ (t : List ℕ). lineText (f i) ++ 10 ∷ t) (file-listed f (i + 1) m ∙ cells-ext (λ x. lineText (f (i + 1 + x)) ++ newline) (λ x. lineText (f (i + (x + 1))) ++ newline) m (λ x l. shift x))
+    ∙ sym (append-assoc (lineText (f i)) newline (cellsTo (λ x. lineText (f (i + (x + 1))) ++ newline) m))
+    ∙ ap (λ (y : ℕ). (lineText (f y) ++ newline) ++ cellsTo (λ x. lineText (f (i + (x + 1))) ++ newline) m) {x = i} {y = i + 0} (omega arith)
+    ∙ sym (rows-cons (λ x. lineText (f (i + x)) ++ newline) m)
   where
     shift : (x : ℕ) → lineText (f (i + 1 + x)) ++ newline ≡ lineText (f (i + (x + 1))) ++ newline
     shift x = ap (λ (y : ℕ). lineText (f y) ++ newline) {x = i + 1 + x} {y = i + (x + 1)} (omega arith)
@@ -187,7 +182,7 @@ key-lines : (rows cells : List ℕ) (k m : ℕ) → fileText (listed (lookupIn r
 unfolding rowLine
 key-lines rows cells k m =
     file-listed (lookupIn rows cells k) 0 m
-    ∙ texts-same (λ x. lineText (rowAt rows cells (baseOf k + (0 + x))) ++ newline) (λ x. lineText (rowAt rows cells (baseOf k + x)) ++ newline) m
+    ∙ cells-ext (λ x. lineText (rowAt rows cells (baseOf k + (0 + x))) ++ newline) (λ x. lineText (rowAt rows cells (baseOf k + x)) ++ newline) m
     (λ x l. ap (λ (y : ℕ). lineText (rowAt rows cells (baseOf k + y)) ++ newline) (zero-add x))
 
 -- what the code writes is the text of the tables

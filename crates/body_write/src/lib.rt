@@ -4,7 +4,8 @@ ghost use mathlib.Core.List.{_++_, _∷_, []};
 ghost use Prim.Native.Nat.{_+_, _≤_, _<_};
 ghost use Rattle.forms.specs.Form.{cell as cell·T};
 ghost use Rattle.refs.specs.Refs.{fn-at};
-ghost use Rattle.output.specs.Output.{Appends, numberText, newline, textsTo, output as output·T, ended};
+ghost use Rattle.table_cells.specs.Rows.{cellsTo};
+ghost use Rattle.output.specs.Output.{Appends, numberText, newline, output as output·T, ended};
 ghost use Rattle.body_rows.specs.Text.{binaryLetter, unaryLetter, resolutionText, fieldText, row, lineText, cellsAt, fileTextIn};
 ghost use Rattle.body_write.specs.Writing.{optionalText, isWorded, headText, fieldTextAt, behindComma, valuesText, rowLine, rowLines, declarationLines};
 use forms::Form;
@@ -130,7 +131,7 @@ fn put_next(out: &mut [u8], c: usize, f: Form, cells: &[u16], j: u16, a: u16, i:
 
 // n fields of it from the field a on, each behind a comma.
 fn put_more(out: &mut [u8], c: usize, f: Form, cells: &[u16], j: u16, a: u16, n: u16) -> usize
-    ensures { λ r. ⌜ Appends (textsTo (behindComma f (now (cells .entry)) j a) n) c (now (out .entry)) r (now (out .exit)) ⌝ }
+    ensures { λ r. ⌜ Appends (cellsTo (behindComma f (now (cells .entry)) j a) n) c (now (out .entry)) r (now (out .exit)) ⌝ }
 {
     let mut d = c;
     let mut i: u16 = 0;

@@ -1,10 +1,11 @@
 -- The laws of tables as rows of cells: equal rows, how many cells there are, rows behind rows.
 use mathlib.Core.Path.{_≡_, refl, sym, ap, _∙_}
 use mathlib.Core.List.{List, [], _∷_, _++_, append-nil, append-assoc}
-use Prim.Native.Nat.{ℕ, suc, zero, _+_, _-_, _*_, _≤_, _<_}
+use Prim.Native.Nat.{ℕ, suc, zero, _+_, _-_, _*_, _≤_}
 use native.Mathlib.Omega.{arith}
 use native.Mathlib.Nat.{suc-mul, zero-mul}
 use lib.ListN.{length, replicate, length-append, length-replicate}
+pub use Rattle.table_cells.specs.Rows.{cells-ext}
 use Rattle.type_table.specs.Memory.{tab}
 use Rattle.type_table.specs.Tables.{tab-snoc}
 use Rattle.theory.specs.Rules.{Shape}
@@ -16,12 +17,6 @@ pub length-cells : (f : ℕ → List ℕ) (k : ℕ) → ((i : ℕ) → length (f
 unfolding cellsTo
 length-cells f k e zero = sym (zero-mul k)
 length-cells f k e (suc n) = length-append (cellsTo f n) (f n) ∙ rw (length-cells f k e n, e n) (sym (suc-mul n k))
-
--- equal rows have equal cells
-pub cells-ext : (f g : ℕ → List ℕ) (n : ℕ) → ((i : ℕ) → i < n → f i ≡ g i) → cellsTo f n ≡ cellsTo g n
-unfolding cellsTo
-cells-ext f g zero e = refl
-cells-ext f g (suc n) e = rw (cells-ext f g n (λ i h. e i (omega arith)), e n (omega arith))
 
 -- the cells of two lists of rows
 pub cells-append : {A : Type 0} (g : A → List ℕ) (l r : List A) → cellsOf g (l ++ r) ≡ cellsOf g l ++ cellsOf g r

@@ -3,9 +3,10 @@ use mathlib.Core.Path.{_≡_}
 use mathlib.Core.List.{List, [], _∷_, _++_}
 use mathlib.Core.Option.{Option, none, some}
 use mathlib.Core.Bool.{Bool, true, false}
-use Prim.Native.Nat.{ℕ, suc, zero, _-_}
+use Prim.Native.Nat.{ℕ, _-_}
 use lib.ListN.{length, replicate}
 pub use Rattle.table_cells.specs.Zeros.{zeros}
+unfoldable pub use Rattle.table_cells.specs.Rows.{cellsTo}
 use Rattle.record.specs.declared.Record.{Record}
 use Rattle.record.specs.Steps.{State}
 use Rattle.record.specs.Encodes.{Encodes}
@@ -15,11 +16,6 @@ use Rattle.record.specs.Encodes.{Encodes}
 -- these cells, and zeros behind them up to n
 abbrev pub padded : ℕ → List ℕ → List ℕ
 padded n xs = xs ++ replicate (n - length xs) 0
-
--- the cells of the rows 0, 1, .., n - 1, one row after another
-unfoldable pub cellsTo : (ℕ → List ℕ) → ℕ → List ℕ
-cellsTo f zero = []
-cellsTo f (suc n) = cellsTo f n ++ f n
 
 -- the cells of each row of a list, one row after another
 unfoldable pub cellsOf : {A : Type 0} → (A → List ℕ) → List A → List ℕ
