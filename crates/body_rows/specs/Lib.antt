@@ -1,0 +1,13 @@
+pub mod Numbers
+pub mod Joined
+pub mod Fields
+pub mod Lines
+pub mod File
+pub mod Steps
+pub mod Tables
+pub mod Bodies
+pub mod Linking
+pub mod Accepts
+pub mod Tells
+pub mod Writing
+pub mod Claims
