@@ -1,21 +1,21 @@
--- A good body is accepted: its text is read, and the tables have its rows.
+-- Well-formed rows are accepted: their text is read, and the tables have them.
 -- Assumes nothing.
 use Prim.Native.Nat.{ℕ, zero, suc, _+_, _*_, _-_, _/_, _<_, _≤_}
 use native.Mathlib.Nat.{add-zero, zero-add}
 use native.Mathlib.Omega.{arith}
 use mathlib.Core.Path.{_≡_, refl, sym, ap, subst, _∙_}
 use mathlib.Core.Logic.{_⊎_, inl, inr}
-use mathlib.Core.List.{List, [], _∷_, _++_, append-assoc}
+use mathlib.Core.List.{List, [], _∷_, _++_, append-assoc, map}
 use mathlib.Core.Bool.{Bool, true, false, cond, false≢true}
 use lib.Dec.{leb, ltb, eqb}
 use lib.ListN.{length, length-append}
 use borrow.Author.Tests.{ltb-true, ltb-false, leb-true, eqb-true, eqb-false, eq-eqb, ne-eqb, le-ltb, lt-leb, le-leb}
-use Rattle.forms.specs.Form.{key-type, key-def, key-inst, key-bind, key-node, key-fn, forms, formAt, kindAt, keyOf, LowType}
+use Rattle.forms.specs.Form.{key-type, key-def, key-inst, key-node, key-fn, forms, formAt, kindAt, keyOf, LowType}
 use Rattle.refs.specs.declared.Counts.{Counts}
-use Rattle.refs.specs.Refs.{nodes-at, fixed-types, form-inst, form-fn, form-fun, form-bool, form-path, firstIn, countIn, levelsIn, userIn, tagIn, valueIn, a-type, a-node, refersTo, isChild, levelsOf, right, isSame, isRepeated}
+use Rattle.refs.specs.Refs.{nodes-at, fixed-types, form-inst, form-fn, firstIn, countIn, levelsIn, userIn, tagIn, valueIn, a-type, a-node, refersTo, isChild, levelsOf, right, isSame, isRepeated}
 use Rattle.body.specs.declared.State.{State}
 use Rattle.body.specs.declared.Answer.the-variants as answer
-use Rattle.body.specs.Body.{most-bytes, rows-length, cells-length, first, inOrder, limitOf, countOf, baseOf, counted, deeper, levelsOver, isDeep, advance, repeats, next, isAhead, firstAhead, Ended, refused, read, finishOf, zeros, settle, bodyOf}
+use Rattle.body.specs.Body.{most-bytes, rows-length, cells-length, first, inOrder, limitOf, countOf, baseOf, counted, levelsOver, isDeep, advance, repeats, next, isAhead, firstAhead, Ended, refused, read, finishOf, zeros, settle, bodyOf}
 use Rattle.well_formed.specs.Good.{writtenAs, behind}
 use Rattle.well_formed.specs.Parsed.{ParsedGood, parsed-good}
 use Rattle.well_formed.specs.Counting.{grown, counted-more, counted-own}
@@ -23,37 +23,18 @@ use Rattle.well_formed.specs.Bytes.{Enough, letters, key-letters, line-enough}
 use Rattle.well_formed.specs.Linked.{LinkedGood, linked-good}
 use Rattle.well_formed.specs.Stored.{stored-tag, stored-value, put-user}
 use Rattle.well_formed.specs.Reading.{Reading, counted-key}
-use Rattle.well_formed.specs.WellFormed.{start-reading}
-use Rattle.body_rows.specs.Lines.{Row, keyAt, keyText, valueText, lineText, WritesRow, value-read, key-low, key-read}
-use Rattle.body_rows.specs.File.{fileText, WritesRows, stepRow, rowsFrom, bodyOfRows, file-read}
-use Rattle.body_rows.specs.Steps.{cellsAt, rowAt, cells-kept, cells-stored, storedOf, placeOf, putOf, stateOf, Made, made-step, levels-old, levels-new, row-old, row-new}
-use Rattle.body_rows.specs.Tables.{Look, listed, keysFrom, bodyRows, counted-other, fn-none, Behind, step-behind}
-use Rattle.body_rows.specs.Bodies.{cellOf, kindOf, Has, partUp, RowOk, ChildOf, valuesOf, GoodBody, HasRows}
+use Rattle.well_formed.specs.Step.{levels-over-le}
+use Rattle.well_formed.specs.WellFormed.{none-counted, start-reading}
+use Rattle.body_rows.specs.Text.{Row, keyAt, valueText, keyText, lineText, fileText, Lookup, listed, keysFrom, bodyRows, cellsAt, rowAt, WritableRow, WritableRows}
+use Rattle.body_rows.specs.ParsedLines.{parsedFrom, bodyOfParsed}
+use Rattle.body_rows.specs.Lines.{value-read, key-low, key-read}
+use Rattle.body_rows.specs.File.{rowParsed, stepRow, rowsFrom, file-read}
+use Rattle.body_rows.specs.Steps.{cells-kept, cells-stored, cellsBehind, placeOf, rowsBehind, stateBehind, Made, made-step, levels-old, levels-new, row-old, row-new}
+use Rattle.body_rows.specs.Tables.{counted-other, fn-none, Behind, step-behind}
+use Rattle.body_rows.specs.Rows.{cellOf, kindOf, Has, partBound, WellFormedRow, ChildOf, valuesOf, WellFormedRows, HasRows}
 use Rattle.body_rows.specs.Linking.{Kinds, form-kinds, form-seen, cells-seen, value-seen, Agree, Tagged, field-right, Apart, Links, refs-link, linked-users, same-only, none-repeated}
 
 -- ── small laws ──
-
--- a level more of no fewer levels is no less
-deeper-le : (a b : ℕ) → a ≤ b → deeper a ≤ deeper b
-unfolding deeper
-deeper-le a b h = by (ltb a 65) refl (ltb b 65) refl
-  where
-    by : (c : Bool) → ltb a 65 ≡ c → (d : Bool) → ltb b 65 ≡ d → cond c (a + 1) 65 ≤ cond d (b + 1) 65
-    by true p true q = omega arith
-    by true p false q = omega (arith, ltb-true a 65 p)
-    by false p true q = omega (arith, ltb-false a 65 p, ltb-true b 65 q)
-    by false p false q = omega arith
-
--- nor are the levels of a line over them
-pub levels-over-le : (f a b : ℕ) → a ≤ b → levelsOver f a ≤ levelsOver f b
-unfolding levelsOver
-levels-over-le f a b h = by (eqb f form-fun) (ltb f form-bool) (ltb form-path f)
-  where
-    by : (x y z : Bool) → cond x (deeper a) (cond y a (cond z a (deeper a))) ≤ cond x (deeper b) (cond y b (cond z b (deeper b)))
-    by true y z = deeper-le a b h
-    by false true z = h
-    by false false true = h
-    by false false false = deeper-le a b h
 
 -- a field that refers to a node and is there is a child
 tagged-by : (k κ tag x : ℕ) → Kinds k κ → writtenAs (κ / 16) tag x ≡ true → Tagged κ tag
@@ -75,7 +56,7 @@ unfolding refersTo
 low-type = refl
 
 -- the fields of a row within its bytes
-pub row-enough : (r : Row) (b m : ℕ) → WritesRow r → Enough b m → Enough (b + length (lineText r) + 1) (m + length (r .cells))
+pub row-enough : (r : Row) (b m : ℕ) → WritableRow r → Enough b m → Enough (b + length (lineText r) + 1) (m + length (r .cells))
 unfolding lineText
 row-enough r b m w h =
     let k : ℕ = keyAt (r .form) in
@@ -92,29 +73,16 @@ none-ahead (suc m) r n cells rows h =
     rw (rw (add-zero r) at (h 0 (omega arith)))
     (none-ahead m (r + 1) n cells rows (λ x l. ap (λ (y : ℕ). isAhead y n cells rows) {x = r + 1 + x} {y = r + suc x} (omega arith) ∙ h (suc x) (omega arith)) ∙ omega arith)
 
--- a file starts with no row of any key
-none-read : (k : ℕ) → countOf (first .counts) k ≡ 0
-unfolding countOf
-none-read k = by (eqb k key-type) (eqb k key-def) (eqb k key-inst) (eqb k key-bind) (eqb k key-node)
-  where
-    by : (a b c d e : Bool) → _≡_ {A = ℕ} (cond a 0 (cond b 0 (cond c 0 (cond d 0 (cond e 0 0))))) 0
-    by true b c d e = refl
-    by false true c d e = refl
-    by false false true d e = refl
-    by false false false true e = refl
-    by false false false false true = refl
-    by false false false false false = refl
-
 -- rows, one behind the other
-writes-append : (rs ss : List Row) → WritesRows rs → WritesRows ss → WritesRows (rs ++ ss)
-unfolding WritesRows
-writes-append [] ss p q = q
-writes-append (r ∷ rs) ss p q = (p .0, writes-append rs ss (p .1) q)
+writable-append : (rs ss : List Row) → WritableRows rs → WritableRows ss → WritableRows (rs ++ ss)
+unfolding WritableRows
+writable-append [] ss p q = q
+writable-append (r ∷ rs) ss p q = (p .0, writable-append rs ss (p .1) q)
 
 -- rows whose text is short enough, over tables that are long enough
 body-rows : (rs : List Row) (rows cells : List ℕ) → rows-length ≤ length rows → cells-length ≤ length cells → length (fileText rs) ≤ most-bytes
-    → bodyOfRows rs rows cells ≡ settle (rowsFrom rs 1 first (zeros cells) (zeros rows)) rows cells
-unfolding bodyOfRows
+    → bodyOfParsed (length (fileText rs)) (map rowParsed rs) rows cells ≡ settle (rowsFrom rs 1 first (zeros cells) (zeros rows)) rows cells
+unfolding bodyOfParsed
 body-rows rs rows cells hr hc h = rw (le-ltb most-bytes (length (fileText rs)) h, le-ltb (length rows) rows-length hr, le-ltb (length cells) cells-length hc)
 
 -- neither of two
@@ -127,7 +95,7 @@ has-key : (n : Counts) (k i : ℕ) → Has n k i → k < 6
 has-key n k i (inl h) = omega (arith, counted-key n k i h)
 has-key n k i (inr h) = omega (arith, h .0)
 
-module _ (n : Counts) (look : Look) (good : GoodBody n look) where
+module _ (n : Counts) (look : Lookup) (good : WellFormedRows n look) where
   -- a node that was read uses x
   abbrev Used : State → ℕ → Type 0
   Used st x = (b : ℕ) × (a : ℕ) × (b < st .counts .nodes) × ChildOf look key-node b a x
@@ -142,7 +110,7 @@ module _ (n : Counts) (look : Look) (good : GoodBody n look) where
     unended : st .key ≡ key-fn → ⊥
     shallow : st .deep ≡ false
     seen : (j x : ℕ) → x < countOf (st .counts) j → rowAt rows cells (baseOf j + x) ≡ look j x
-    ranked : (j x : ℕ) → x < countOf (st .counts) j → levelsIn rows (baseOf j + x) ≤ good .up j x
+    ranked : (j x : ℕ) → x < countOf (st .counts) j → levelsIn rows (baseOf j + x) ≤ good .bound j x
     users : (x : ℕ) → x < st .counts .nodes → (userIn rows (nodes-at + x) ≡ 0) ⊎ Used st x
 
   -- behind `fn`
@@ -158,18 +126,18 @@ module _ (n : Counts) (look : Look) (good : GoodBody n look) where
     abbrev r : Row
     r = look k i
 
-    ok : RowOk n look (good .up) k i
+    ok : WellFormedRow n look (good .bound) k i
     ok = good .rows k i has
 
     -- the cells behind the row
     abbrev stored : List ℕ
-    stored = storedOf r st cells
+    stored = cellsBehind r st cells
 
     abbrev m : ℕ
     m = length (r .cells)
 
     wide : (st .counts .fields + m) * 3 ≤ length cells
-    wide = omega (arith, row-enough r b (st .counts .fields) (ok .writes) (at .enough), at .reading .cells-long)
+    wide = omega (arith, row-enough r b (st .counts .fields) (ok .writable) (at .enough), at .reading .cells-long)
 
     -- what stood stands over the new cells too
     seen-stored : (j x : ℕ) → x < countOf (st .counts) j → rowAt rows stored (baseOf j + x) ≡ look j x
@@ -209,17 +177,17 @@ module _ (n : Counts) (look : Look) (good : GoodBody n look) where
         by true e (inr p) = absurd (omega (arith, p .0, eqb-true k key-node e))
         by false e p = omega (arith, l, at .below key-node (omega (arith, h, eqb-false k key-node e)))
 
-    node-written : (x : ℕ) → x < st .counts .nodes → WritesRow (look key-node x)
+    node-written : (x : ℕ) → x < st .counts .nodes → WritableRow (look key-node x)
     unfolding countOf
-    node-written x l = good .rows key-node x (nodes-within (omega (arith, at .reading .keys key-node x l, at .key)) x l) .writes
+    node-written x l = good .rows key-node x (nodes-within (omega (arith, at .reading .keys key-node x l, at .key)) x l) .writable
 
     -- what the table of forms says of a field
     kinds : (a : ℕ) → Kinds k (kindOf r a)
-    kinds a = rw (ok .key) at (form-kinds (r .form) a (ok .writes .form))
+    kinds a = rw (ok .key) at (form-kinds (r .form) a (ok .writable .form))
 
     -- a field of the row has a tag and a value of its way
     written : (a : ℕ) → a < m → writtenAs (kindOf r a / 16) (cellOf r a .tag) (cellOf r a .value) ≡ true
-    written a h = parsed-good (keyAt (r .form)) (valueText r) (r .form) (r .cells) (value-read r (ok .writes)) .written a h
+    written a h = parsed-good (keyAt (r .form)) (valueText r) (r .form) (r .cells) (value-read r (ok .writable)) .written a h
 
     tagged : (a : ℕ) → a < m → Tagged (kindOf r a) (cellOf r a .tag)
     tagged a h = tagged-by k (kindOf r a) (cellOf r a .tag) (cellOf r a .value) (kinds a) (written a h)
@@ -325,15 +293,15 @@ module _ (n : Counts) (look : Look) (good : GoodBody n look) where
         (λ a h. rw (zero-add a, tag-stored a h, value-stored a h) (written a h)) (linking .links)
 
     -- the levels of a part
-    part-low : (a : ℕ) → a < m → levelsOf (kindOf r a) (cellOf r a .tag) (cellOf r a .value) rows ≤ partUp (good .up) (kindOf r a) (cellOf r a)
-    unfolding levelsOf partUp countOf baseOf
+    part-low : (a : ℕ) → a < m → levelsOf (kindOf r a) (cellOf r a .tag) (cellOf r a .value) rows ≤ partBound (good .bound) (kindOf r a) (cellOf r a)
+    unfolding levelsOf partBound countOf baseOf
     part-low a h = by (isChild (kindOf r a) (cellOf r a .tag)) refl (eqb (kindOf r a) LowType) refl (leb fixed-types (cellOf r a .value)) refl
       where
         x : ℕ
         x = cellOf r a .value
 
         by : (c : Bool) → isChild (kindOf r a) (cellOf r a .tag) ≡ c → (d : Bool) → eqb (kindOf r a) LowType ≡ d → (e : Bool) → leb fixed-types x ≡ e
-            → cond c (levelsIn rows (nodes-at + x)) (cond d (cond e (levelsIn rows (x - fixed-types)) 0) 0) ≤ cond c (good .up key-node x) (cond d (cond e (good .up key-type (x - fixed-types)) 0) 0)
+            → cond c (levelsIn rows (nodes-at + x)) (cond d (cond e (levelsIn rows (x - fixed-types)) 0) 0) ≤ cond c (good .bound key-node x) (cond d (cond e (good .bound key-type (x - fixed-types)) 0) 0)
         by true p d q e s = at .ranked key-node x (child-read a h p)
         by false p true q true s =
             let low : kindOf r a ≡ LowType = eqb-true (kindOf r a) LowType q in
@@ -344,16 +312,16 @@ module _ (n : Counts) (look : Look) (good : GoodBody n look) where
         by false p false q e s = omega arith
 
     -- the levels of the row
-    level-low : levelsOver (r .form) (linking .levels) ≤ good .up k i
+    level-low : levelsOver (r .form) (linking .levels) ≤ good .bound k i
     level-low = by (links-good .attained)
       where
         by : (linking .levels ≡ 0) ⊎ ((a : ℕ) × (a < m) × (linking .levels ≡ levelsOf (kindAt (formAt (r .form)) (0 + a)) (tagIn stored (st .counts .fields + a)) (valueIn stored (st .counts .fields + a)) rows))
-            → levelsOver (r .form) (linking .levels) ≤ good .up k i
+            → levelsOver (r .form) (linking .levels) ≤ good .bound k i
         by (inl e) = rw e (ok .level)
         by (inr (a, h, e)) =
             let f : linking .levels ≡ levelsOf (kindOf r a) (cellOf r a .tag) (cellOf r a .value) rows = e ∙ rw (zero-add a, tag-stored a h, value-stored a h) in
-            let g : levelsOver (r .form) (linking .levels) ≤ levelsOver (r .form) (partUp (good .up) (kindOf r a) (cellOf r a)) =
-            levels-over-le (r .form) (linking .levels) (partUp (good .up) (kindOf r a) (cellOf r a)) (omega (arith, f, part-low a h)) in
+            let g : levelsOver (r .form) (linking .levels) ≤ levelsOver (r .form) (partBound (good .bound) (kindOf r a) (cellOf r a)) =
+            levels-over-le (r .form) (linking .levels) (partBound (good .bound) (kindOf r a) (cellOf r a)) (omega (arith, f, part-low a h)) in
             omega (arith, g, ok .levels a h)
 
     -- the row is not too deep
@@ -367,21 +335,21 @@ module _ (n : Counts) (look : Look) (good : GoodBody n look) where
         by : (a : Bool) → eqb k key-type ≡ a → (c : Bool) → eqb k key-node ≡ c → Has n k i → cond a (ltb 4 d) (cond c (ltb 64 d) false) ≡ false
         by true p c q (inl h) =
             let e : k ≡ key-type = eqb-true k key-type p in
-            le-ltb 4 d (omega (arith, level-low, ap (λ (j : ℕ). good .up j i) e, good .nesting i (omega (arith, h, ap (countOf n) e))))
+            le-ltb 4 d (omega (arith, level-low, ap (λ (j : ℕ). good .bound j i) e, good .nesting i (omega (arith, h, ap (countOf n) e))))
         by true p c q (inr h) = absurd (omega (arith, h .0, eqb-true k key-type p))
         by false p true q (inl h) =
             let e : k ≡ key-node = eqb-true k key-node q in
-            le-ltb 64 d (omega (arith, level-low, ap (λ (j : ℕ). good .up j i) e, good .depth i (omega (arith, h, ap (countOf n) e))))
+            le-ltb 64 d (omega (arith, level-low, ap (λ (j : ℕ). good .bound j i) e, good .depth i (omega (arith, h, ap (countOf n) e))))
         by false p true q (inr h) = absurd (omega (arith, h .0, eqb-true k key-node q))
         by false p false q h = refl
 
     -- ── behind the row ──
 
     abbrev st′ : State
-    st′ = stateOf r st (linking .levels)
+    st′ = stateBehind r st (linking .levels)
 
     abbrev put : List ℕ
-    put = putOf r st (linking .levels) (linking .after)
+    put = rowsBehind r st (linking .levels) (linking .after)
 
     abbrev b′ : ℕ
     b′ = b + length (lineText r) + 1
@@ -390,7 +358,7 @@ module _ (n : Counts) (look : Look) (good : GoodBody n look) where
     stepped = made-step r st cells rows (linking .levels) (linking .after) made
 
     behind-row : Behind r st cells rows b′ st′ stored put
-    behind-row = step-behind r b st cells rows st′ stored put (ok .writes) (at .reading) (at .enough) short stepped
+    behind-row = step-behind r b st cells rows st′ stored put (ok .writable) (at .reading) (at .enough) short stepped
 
     -- the row's own place, by key and number
     same-place : (j x : ℕ) → j ≡ keyAt (r .form) → x ≡ countOf (st .counts) j → baseOf j + x ≡ placeOf r st
@@ -410,11 +378,11 @@ module _ (n : Counts) (look : Look) (good : GoodBody n look) where
         by (inl l) = row-old r st cells rows (linking .levels) (linking .after) made (at .reading) wide j x l ∙ at .seen j x l
         by (inr q) = ap (rowAt put stored) (same-place j x (q .0) (q .1)) ∙ row-new r st cells rows (linking .levels) (linking .after) made (at .reading) wide ∙ same-row j x (q .0) (q .1)
 
-    ranked-next : (j x : ℕ) → x < countOf (st′ .counts) j → levelsIn put (baseOf j + x) ≤ good .up j x
+    ranked-next : (j x : ℕ) → x < countOf (st′ .counts) j → levelsIn put (baseOf j + x) ≤ good .bound j x
     unfolding advance
     ranked-next j x h = by (grown (st .counts) (keyAt (r .form)) m j x h)
       where
-        by : (x < countOf (st .counts) j) ⊎ ((j ≡ keyAt (r .form)) × (x ≡ countOf (st .counts) j)) → levelsIn put (baseOf j + x) ≤ good .up j x
+        by : (x < countOf (st .counts) j) ⊎ ((j ≡ keyAt (r .form)) × (x ≡ countOf (st .counts) j)) → levelsIn put (baseOf j + x) ≤ good .bound j x
         by (inl l) = rw (levels-old r st cells rows (linking .levels) (linking .after) made (at .reading) wide j x l) (at .ranked j x l)
         by (inr q) =
             let e : k ≡ j = sym (ok .key) ∙ sym (q .0) in
@@ -424,8 +392,8 @@ module _ (n : Counts) (look : Look) (good : GoodBody n look) where
               ap (levelsIn put) (same-place j x (q .0) (q .1)),
               levels-new r st cells rows (linking .levels) (linking .after) made (at .reading) wide,
               level-low,
-              ap (λ (y : ℕ). good .up y i) e,
-              ap (good .up j) f,
+              ap (λ (y : ℕ). good .bound y i) e,
+              ap (good .bound j) f,
             )
 
     shallow-next : st′ .deep ≡ false
@@ -526,17 +494,17 @@ module _ (n : Counts) (look : Look) (good : GoodBody n look) where
         within : x < n .types
         within = omega (arith, h, done .counts key-type (omega arith))
 
-        ok : RowOk n look (good .up) key-type x
+        ok : WellFormedRow n look (good .bound) key-type x
         ok = good .rows key-type x (inl within)
 
         first-value : 0 < length (look key-type x .cells) → valueIn cells (firstIn rows x) ≡ cellOf (look key-type x) 0 .value
         first-value l = ap (valueIn cells) (sym (add-zero (firstIn rows x))) ∙ value-seen rows cells x (look key-type x) (type-seen x h) 0 l
 
         inst-filled : look key-type x .form ≡ form-inst → 0 < length (look key-type x .cells)
-        inst-filled e = let l : 1 ≤ length (look key-type x .cells) = rw e at (ok .writes .least) in l
+        inst-filled e = let l : 1 ≤ length (look key-type x .cells) = rw e at (ok .writable .least) in l
 
         fn-filled : look key-type x .form ≡ form-fn → 0 < length (look key-type x .cells)
-        fn-filled e = let l : 1 ≤ length (look key-type x .cells) = rw e at (ok .writes .least) in l
+        fn-filled e = let l : 1 ≤ length (look key-type x .cells) = rw e at (ok .writable .least) in l
 
         by : (a : Bool) → eqb (look key-type x .form) form-inst ≡ a → (c : Bool) → eqb (look key-type x .form) form-fn ≡ c
             → cond a (leb (st .counts .insts) (valueIn cells (firstIn rows x))) (cond c (leb (st .counts .defs) (valueIn cells (firstIn rows x))) false) ≡ false
@@ -594,7 +562,7 @@ module _ (n : Counts) (look : Look) (good : GoodBody n look) where
   row-finished : (k i b l : ℕ) (st : State) (cells rows : List ℕ) (at : At k i b st cells rows) (has : Has n k i) (short : b + length (lineText (look k i)) + 1 ≤ most-bytes) (rest : List Row)
       → Finished (rowsFrom rest (l + 1) (st′ k i b st cells rows at has short) (stored k i b st cells rows at has short) (put k i b st cells rows at has short))
       → Finished (rowsFrom (look k i ∷ rest) l st cells rows)
-  unfolding rowsFrom
+  unfolding parsedFrom
   row-finished k i b l st cells rows at has short rest h = rw (stepped k i b st cells rows at has short) h
 
   -- the rows of a key from the number i on
@@ -618,7 +586,7 @@ module _ (n : Counts) (look : Look) (good : GoodBody n look) where
   -- `fn`
   fn-finished : (b l : ℕ) (st : State) (cells rows : List ℕ) → At key-fn 0 b st cells rows → b + length (fileText (look key-fn 0 ∷ [])) ≤ most-bytes
       → Finished (rowsFrom (look key-fn 0 ∷ []) l st cells rows)
-  unfolding fileText rowsFrom
+  unfolding fileText parsedFrom
   fn-finished b l st cells rows at short =
       let has : Has n key-fn 0 = inr (refl, refl) in
       let here : b + length (lineText (look key-fn 0)) + 1 ≤ most-bytes = omega (arith, short, length-append (lineText (look key-fn 0)) (10 ∷ [])) in
@@ -654,12 +622,12 @@ module _ (n : Counts) (look : Look) (good : GoodBody n look) where
     key = omega arith;
     unended = λ e. omega (arith, e);
     shallow = refl;
-    seen = λ j x h. absurd (omega (arith, h, none-read j));
-    ranked = λ j x h. absurd (omega (arith, h, none-read j));
+    seen = λ j x h. absurd (omega (arith, h, none-counted j));
+    ranked = λ j x h. absurd (omega (arith, h, none-counted j));
     users = λ x h. absurd (omega arith);
   }
 
-  -- GOOD BODIES ARE ACCEPTED: the rows of a good body are read to their end, and the tables have them
+  -- WELL-FORMED ROWS ARE ACCEPTED: they are read to their end, and the tables have them
   pub rows-accepted : (rows cells : List ℕ) → rows-length ≤ length rows → cells-length ≤ length cells → length (fileText (bodyRows n look)) ≤ most-bytes
       → Finished (rowsFrom (bodyRows n look) 1 first (zeros cells) (zeros rows))
   unfolding bodyRows
@@ -668,19 +636,21 @@ module _ (n : Counts) (look : Look) (good : GoodBody n look) where
   -- ── its text ──
 
   -- each row has a text
-  listed-writes : (k m i : ℕ) → i + m ≤ countOf n k → WritesRows (listed (look k) i m)
-  unfolding listed WritesRows
+  listed-writes : (k m i : ℕ) → i + m ≤ countOf n k → WritableRows (listed (look k) i m)
+  unfolding listed WritableRows
   listed-writes k zero i h = tt
-  listed-writes k (suc m) i h = (good .rows k i (inl (omega arith)) .writes, listed-writes k m (i + 1) (omega arith))
+  listed-writes k (suc m) i h = (good .rows k i (inl (omega arith)) .writable, listed-writes k m (i + 1) (omega arith))
 
-  keys-write : (m k : ℕ) → WritesRows (keysFrom n look k m)
-  unfolding keysFrom WritesRows
-  keys-write zero k = tt
-  keys-write (suc m) k = writes-append (listed (look k) 0 (countOf n k)) (keysFrom n look (k + 1) m) (listed-writes k (countOf n k) 0 (omega arith)) (keys-write m (k + 1))
+  -- the rows of some keys have texts
+  keys-writable : (m k : ℕ) → WritableRows (keysFrom n look k m)
+  unfolding keysFrom WritableRows
+  keys-writable zero k = tt
+  keys-writable (suc m) k = writable-append (listed (look k) 0 (countOf n k)) (keysFrom n look (k + 1) m) (listed-writes k (countOf n k) 0 (omega arith)) (keys-writable m (k + 1))
 
-  pub rows-write : WritesRows (bodyRows n look)
-  unfolding bodyRows WritesRows
-  rows-write = writes-append (keysFrom n look 0 5) (look key-fn 0 ∷ []) (keys-write 5 0) (good .rows key-fn 0 (inr (refl, refl)) .writes, tt)
+  -- so have those of the body
+  pub rows-writable : WritableRows (bodyRows n look)
+  unfolding bodyRows WritableRows
+  rows-writable = writable-append (keysFrom n look 0 5) (look key-fn 0 ∷ []) (keys-writable 5 0) (good .rows key-fn 0 (inr (refl, refl)) .writable, tt)
 
   -- an end with the rows, as an answer
   settled : (x : Ended) (rows cells : List ℕ) → Finished x
@@ -688,12 +658,12 @@ module _ (n : Counts) (look : Look) (good : GoodBody n look) where
   settled (refused x l) rows cells f = absurd f
   settled (read n′ cells′ rows′) rows cells f = (n′, refl, f)
 
-  -- READ-BACK: the text of a good body is accepted, where it has at most 65,536 bytes and the tables are long enough, and the tables have its rows
-  pub good-read : (rows cells : List ℕ) → rows-length ≤ length rows → cells-length ≤ length cells → length (fileText (bodyRows n look)) ≤ most-bytes
+  -- READ-BACK: the text of well-formed rows is accepted, where it has at most 65,536 bytes and the tables are long enough, and the tables have the rows
+  pub well-formed-read : (rows cells : List ℕ) → rows-length ≤ length rows → cells-length ≤ length cells → length (fileText (bodyRows n look)) ≤ most-bytes
       → (n′ : Counts) × (bodyOf (fileText (bodyRows n look)) rows cells .answer ≡ answer.Body n′)
       × HasRows n look n′ (bodyOf (fileText (bodyRows n look)) rows cells .rows) (bodyOf (fileText (bodyRows n look)) rows cells .cells)
-  good-read rows cells hr hc short =
+  well-formed-read rows cells hr hc short =
       let s = settled (rowsFrom (bodyRows n look) 1 first (zeros cells) (zeros rows)) rows cells (rows-accepted rows cells hr hc short) in
       let q : bodyOf (fileText (bodyRows n look)) rows cells ≡ settle (rowsFrom (bodyRows n look) 1 first (zeros cells) (zeros rows)) rows cells =
-      file-read (bodyRows n look) rows-write rows cells ∙ body-rows (bodyRows n look) rows cells hr hc short in
+      file-read (bodyRows n look) rows-writable rows cells ∙ body-rows (bodyRows n look) rows cells hr hc short in
       rw q s

@@ -19,58 +19,10 @@ use Rattle.forms.specs.declared.Read.{Read}
 use Rattle.forms.specs.declared.Read.the-variants.{Is, Bad}
 use Rattle.forms.specs.Form.{cell, valued, named, letterOf, optionalOf, binaryOf, unaryOf, tagOf, taggedOf, resolutionOf, behindOf, pairOf, readAs}
 use Rattle.output.specs.Output.{numberText}
-use Rattle.body_rows.specs.Numbers.{most, Digits, number-read, number-only, number-digits, number-filled}
+use Rattle.well_formed.specs.Parsed.{by-test, either, read-filled}
+use Rattle.body_rows.specs.Text.{binaryLetter, unaryLetter, tagLetter, resolutionText, fieldText, most-number, IsRes, IsOptional, Writable}
+use Rattle.body_rows.specs.Numbers.{Digits, number-read, number-only, number-digits, number-filled}
 use Rattle.body_rows.specs.Joined.{Over, over-append, Without, before-part, before-parts}
-
--- ── the text ──
-
--- the letter of an operator of `bin`
-unfoldable pub binaryLetter : ℕ → ℕ
-binaryLetter v = cond (eqb v 0) (code "b") (cond (eqb v 1) (code "c") (code "a"))
-
--- and of `un`
-unfoldable pub unaryLetter : ℕ → ℕ
-unaryLetter v = cond (eqb v 0) (code "d") (cond (eqb v 1) (code "r") (cond (eqb v 2) (code "n") (code "t")))
-
--- the letter of a tag of RES
-unfoldable pub tagLetter : ℕ → ℕ
-tagLetter b =
-    cond (eqb b 1) (code "l") (cond (eqb b 2) (code "f") (cond (eqb b 3) (code "c") (cond (eqb b 4) (code "i") (cond (eqb b 5) (code "e") (code "o")))))
-
--- RES
-unfoldable pub resText : ℕ → ℕ → List ℕ
-resText tag v = tagLetter tag ∷ cond (leb tag 4) (numberText v) []
-
--- a field, by the way in which it is written: a number; a number or `-`; NAME:NUMBER; an operator; RES; NAME:RES
-unfoldable pub fieldText : ℕ → Cell → List ℕ
-fieldText c x =
-    cond (eqb c 1) (numberText (x .value))
-    (cond (eqb c 2) (cond (eqb (x .tag) 0) (code "-" ∷ []) (numberText (x .value)))
-    (cond (eqb c 3) (numberText (x .name) ++ 58 ∷ numberText (x .value))
-    (cond (eqb c 4) (binaryLetter (x .value) ∷ [])
-    (cond (eqb c 5) (unaryLetter (x .value) ∷ [])
-    (cond (eqb c 6) (resText (x .tag) (x .value)) (cond (eqb c 7) (numberText (x .name) ++ 58 ∷ resText (x .tag) (x .value)) []))))))
-
--- ── which cells have a text ──
-
--- the tag and the value of RES: a number behind one of l f c i, none behind e and o
-abbrev pub IsRes : ℕ → ℕ → Type 0
-IsRes tag v = ((0 < tag) × (tag ≤ 4) × (v ≤ most)) ⊎ ((4 < tag) × (tag < 7) × (v ≡ 0))
-
--- `-`, or a number
-abbrev pub IsOptional : ℕ → ℕ → Type 0
-IsOptional tag v = ((tag ≡ 0) × (v ≡ 0)) ⊎ ((tag ≡ 1) × (v ≤ most))
-
--- the cells that a field written in the way c can have
-unfoldable pub Writes : ℕ → Cell → Type 0
-Writes c x =
-    cond (eqb c 1) ((x .name ≡ 0) × (x .tag ≡ 1) × (x .value ≤ most))
-    (cond (eqb c 2) ((x .name ≡ 0) × IsOptional (x .tag) (x .value))
-    (cond (eqb c 3) ((x .name ≤ most) × (x .tag ≡ 1) × (x .value ≤ most))
-    (cond (eqb c 4) ((x .name ≡ 0) × (x .tag ≡ 1) × (x .value < 3))
-    (cond (eqb c 5) ((x .name ≡ 0) × (x .tag ≡ 1) × (x .value < 4))
-    (cond (eqb c 6) ((x .name ≡ 0) × IsRes (x .tag) (x .value))
-    (cond (eqb c 7) ((x .name ≤ most) × IsRes (x .tag) (x .value)) ⊥))))))
 
 -- ── small laws ──
 
@@ -161,8 +113,8 @@ tag-read (suc (suc (suc (suc (suc (suc zero)))))) p h = refl
 tag-read (suc (suc (suc (suc (suc (suc (suc b))))))) p h = absurd (omega arith)
 
 -- RES
-res-read : (b v : ℕ) → IsRes b v → resolutionOf (resText b v) ≡ Is (cell 0 b v)
-unfolding resText taggedOf
+res-read : (b v : ℕ) → IsRes b v → resolutionOf (resolutionText b v) ≡ Is (cell 0 b v)
+unfolding resolutionText taggedOf
 res-read b v (inl (p, h, s)) = rw (tag-read b p (omega arith), ne-eqb b 0 (λ e. omega (arith, e)), le-leb b 4 h, number-read v s)
 res-read b v (inr (p, h, e)) = rw (tag-read b (omega arith) h, ne-eqb b 0 (λ e. omega (arith, e)), lt-leb b 4 p, e)
 
@@ -175,24 +127,24 @@ optional-read b v (inr (p, h)) =
     rw p (rw (ne-eqb (letterOf (numberText v)) 45 (digits-letter (numberText v) (number-digits v)), number-read v h))
 
 -- a name, a colon, and what stands behind them
-pair-read : (p : Bool) (a : ℕ) (t : List ℕ) → a ≤ most → pairOf p (numberText a ++ 58 ∷ t) ≡ named (num.Is a) (behindOf p t)
+pair-read : (p : Bool) (a : ℕ) (t : List ℕ) → a ≤ most-number → pairOf p (numberText a ++ 58 ∷ t) ≡ named (num.Is a) (behindOf p t)
 unfolding pairOf
 pair-read p a t h =
     let b : before 58 (numberText a ++ 58 ∷ t) ≡ length (numberText a) = before-part 58 (numberText a) t (digits-without (numberText a) (number-digits a)) in
     rw (b, take-append-seam (numberText a) (58 ∷ t), drop-append-add (numberText a) (58 ∷ t) 1, number-read a h)
 
 -- there is no other way
-pub no-way : (c : ℕ) (x : Cell) → 8 ≤ c → Writes c x → ⊥
-unfolding Writes
+pub no-way : (c : ℕ) (x : Cell) → 8 ≤ c → Writable c x → ⊥
+unfolding Writable
 no-way c x h w =
     let n : (i : ℕ) → i < 8 → eqb c i ≡ false = λ i b. ne-eqb c i (λ e. omega (arith, e)) in
     rw (n 1 (omega arith), n 2 (omega arith), n 3 (omega arith), n 4 (omega arith), n 5 (omega arith), n 6 (omega arith), n 7 (omega arith)) at w
 
 -- the text of a cell reads back as the cell
-pub field-read : (c : ℕ) (x : Cell) → Writes c x → readAs c (fieldText c x) ≡ Is x
-unfolding Writes readAs fieldText
+pub field-read : (c : ℕ) (x : Cell) → Writable c x → readAs c (fieldText c x) ≡ Is x
+unfolding Writable readAs fieldText
 field-read c x =
-    way-cases (λ (c : ℕ). Writes c x → readAs c (fieldText c x) ≡ Is x)
+    way-cases (λ (c : ℕ). Writable c x → readAs c (fieldText c x) ≡ Is x)
     (λ w. absurd w)
     (λ w. rw (number-read (x .value) (w .2)) (ap Is (cell-eq x 0 1 (x .value) (w .0) (w .1) refl)))
     (λ w. optional-read (x .tag) (x .value) (w .1) ∙ ap Is (cell-eq x 0 (x .tag) (x .value) (w .0) refl refl))
@@ -200,32 +152,27 @@ field-read c x =
     (λ w. binary-read (x .value) (w .2) ∙ ap Is (cell-eq x 0 1 (x .value) (w .0) (w .1) refl))
     (λ w. unary-read (x .value) (w .2) ∙ ap Is (cell-eq x 0 1 (x .value) (w .0) (w .1) refl))
     (λ w. res-read (x .tag) (x .value) (w .1) ∙ ap Is (cell-eq x 0 (x .tag) (x .value) (w .0) refl refl))
-    (λ w. pair-read true (x .name) (resText (x .tag) (x .value)) (w .0) ∙ rw (res-read (x .tag) (x .value) (w .1)))
+    (λ w. pair-read true (x .name) (resolutionText (x .tag) (x .value)) (w .0) ∙ rw (res-read (x .tag) (x .value) (w .1)))
     (λ c h w. absurd (no-way c x h w))
     c
 
 -- ── read, then written ──
 
--- what holds of each arm of a test, where the test chooses it, holds of the whole
-pub by-test : {A : Type 0} (P : A → Type 0) (b : Bool) (x y : A) → (b ≡ true → P x) → (b ≡ false → P y) → P (cond b x y)
-by-test P true x y p q = p refl
-by-test P false x y p q = q refl
-
 -- a cell that s is the text of
 abbrev Spells : ℕ → List ℕ → Read → Type 0
-Spells c s r = (x : Cell) → r ≡ Is x → Writes c x × (fieldText c x ≡ s)
+Spells c s r = (x : Cell) → r ≡ Is x → Writable c x × (fieldText c x ≡ s)
 
 -- what is not read is not the text of a cell
 bad-spells : (c : ℕ) (s : List ℕ) → Spells c s Bad
 bad-spells c s x e = let z : _≡_ {A = ℕ} 0 1 = cc in absurd (omega arith)
 
 -- a cell that s is the text of, as it is
-is-spells : (c : ℕ) (s : List ℕ) (y : Cell) → Writes c y → fieldText c y ≡ s → Spells c s (Is y)
+is-spells : (c : ℕ) (s : List ℕ) (y : Cell) → Writable c y → fieldText c y ≡ s → Spells c s (Is y)
 is-spells c s y w t x e = let q : y ≡ x = cc in rw (← q) (w, t)
 
 -- a number
 number-spells : (s : List ℕ) → Spells 1 s (valued 1 (numberOf s))
-unfolding Writes fieldText
+unfolding Writable fieldText
 number-spells s x e =
     let v = valued-only 1 (numberOf s) x e in
     let r = number-only s (v .0) (v .1) in
@@ -233,7 +180,7 @@ number-spells s x e =
 
 -- a number or `-`
 optional-spells : (s : List ℕ) → Spells 2 s (optionalOf (letterOf s) s)
-unfolding optionalOf Writes fieldText
+unfolding optionalOf Writable fieldText
 optional-spells s =
     by-test (Spells 2 s) (eqb (letterOf s) (code "-")) _ _
     (λ h. is-spells 2 s (cell 0 0 0) (refl, inl (refl, refl)) (sym (letter-is s 45 (omega arith) (eqb-true (letterOf s) 45 h))))
@@ -244,7 +191,7 @@ optional-spells s =
 
 -- an operator of `bin`
 binary-spells : (s : List ℕ) → Spells 4 s (binaryOf (letterOf s))
-unfolding binaryOf Writes fieldText binaryLetter
+unfolding binaryOf Writable fieldText binaryLetter
 binary-spells s =
     by-test (Spells 4 s) (eqb (letterOf s) (code "b")) _ _
     (λ h. is-spells 4 s (cell 0 1 0) (refl, refl, omega arith) (sym (letter-is s 98 (omega arith) (eqb-true (letterOf s) 98 h))))
@@ -256,7 +203,7 @@ binary-spells s =
 
 -- and of `un`
 unary-spells : (s : List ℕ) → Spells 5 s (unaryOf (letterOf s))
-unfolding unaryOf Writes fieldText unaryLetter
+unfolding unaryOf Writable fieldText unaryLetter
 unary-spells s =
     by-test (Spells 5 s) (eqb (letterOf s) (code "d")) _ _
     (λ h. is-spells 5 s (cell 0 1 0) (refl, refl, omega arith) (sym (letter-is s 100 (omega arith) (eqb-true (letterOf s) 100 h))))
@@ -287,15 +234,15 @@ tag-only y =
     at l b r p q = by-test (Tagged y) (eqb y l) b r (λ e. p (eqb-true y l e)) (λ e. q)
 
 -- RES
-res-only : (s : List ℕ) (x : Cell) → resolutionOf s ≡ Is x → (x .name ≡ 0) × IsRes (x .tag) (x .value) × (resText (x .tag) (x .value) ≡ s)
-unfolding tagOf taggedOf resText
+res-only : (s : List ℕ) (x : Cell) → resolutionOf s ≡ Is x → (x .name ≡ 0) × IsRes (x .tag) (x .value) × (resolutionText (x .tag) (x .value) ≡ s)
+unfolding tagOf taggedOf resolutionText
 res-only [] x e = let z : _≡_ {A = ℕ} 0 1 = cc in absurd (omega arith)
 res-only (y ∷ s) x e = by (tagOf y) (tag-only y) e
   where
-    done : (r v : ℕ) (c : Cell) → cell 0 r v ≡ c → IsRes r v → resText r v ≡ y ∷ s → (c .name ≡ 0) × IsRes (c .tag) (c .value) × (resText (c .tag) (c .value) ≡ y ∷ s)
+    done : (r v : ℕ) (c : Cell) → cell 0 r v ≡ c → IsRes r v → resolutionText r v ≡ y ∷ s → (c .name ≡ 0) × IsRes (c .tag) (c .value) × (resolutionText (c .tag) (c .value) ≡ y ∷ s)
     done r v c q i t = rw (← q) (refl, i, t)
 
-    low : (r : ℕ) → 0 < r → r ≤ 4 → tagLetter r ≡ y → valued r (numberOf s) ≡ Is x → (x .name ≡ 0) × IsRes (x .tag) (x .value) × (resText (x .tag) (x .value) ≡ y ∷ s)
+    low : (r : ℕ) → 0 < r → r ≤ 4 → tagLetter r ≡ y → valued r (numberOf s) ≡ Is x → (x .name ≡ 0) × IsRes (x .tag) (x .value) × (resolutionText (x .tag) (x .value) ≡ y ∷ s)
     low r p h t e =
         let v = valued-only r (numberOf s) x e in
         let m = number-only s (v .0) (v .1) in
@@ -306,23 +253,23 @@ res-only (y ∷ s) x e = by (tagOf y) (tag-only y) e
     empty (z ∷ t) h = absurd (omega (arith, eqb-true (suc (suc (length t))) 1 h))
 
     high : (r : ℕ) → 4 < r → r < 7 → tagLetter r ≡ y → (b : Bool) → eqb (suc (length s)) 1 ≡ b → cond b (Is (cell 0 r 0)) Bad ≡ Is x
-        → (x .name ≡ 0) × IsRes (x .tag) (x .value) × (resText (x .tag) (x .value) ≡ y ∷ s)
+        → (x .name ≡ 0) × IsRes (x .tag) (x .value) × (resolutionText (x .tag) (x .value) ≡ y ∷ s)
     high r p h t true b e = let q : cell 0 r 0 ≡ x = cc in done r 0 x q (inr (p, h, refl)) (rw (t, lt-leb r 4 p, empty s b))
     high r p h t false b e = let z : _≡_ {A = ℕ} 0 1 = cc in absurd (omega arith)
 
     either : (r : ℕ) → 0 < r → r < 7 → tagLetter r ≡ y → (b : Bool) → leb r 4 ≡ b
         → cond b (valued r (numberOf s)) (cond (eqb (suc (length s)) 1) (Is (cell 0 r 0)) Bad) ≡ Is x
-        → (x .name ≡ 0) × IsRes (x .tag) (x .value) × (resText (x .tag) (x .value) ≡ y ∷ s)
+        → (x .name ≡ 0) × IsRes (x .tag) (x .value) × (resolutionText (x .tag) (x .value) ≡ y ∷ s)
     either r p h t true b e = low r p (leb-true r 4 b) t e
     either r p h t false b e = high r (leb-false r 4 b) h t (eqb (suc (length s)) 1) refl e
 
-    by : (r : ℕ) → Tagged y r → taggedOf r (y ∷ s) ≡ Is x → (x .name ≡ 0) × IsRes (x .tag) (x .value) × (resText (x .tag) (x .value) ≡ y ∷ s)
+    by : (r : ℕ) → Tagged y r → taggedOf r (y ∷ s) ≡ Is x → (x .name ≡ 0) × IsRes (x .tag) (x .value) × (resolutionText (x .tag) (x .value) ≡ y ∷ s)
     by r (inl q) e = let f : Bad ≡ Is x = rw q at e in let z : _≡_ {A = ℕ} 0 1 = cc in absurd (omega arith)
     by r (inr (p, h, t)) e = either r p h t (leb r 4) refl (rw (ne-eqb r 0 (λ q. omega (arith, q))) at e)
 
 -- RES is not empty
-res-filled : (tag v : ℕ) → 0 < length (resText tag v)
-unfolding resText
+res-filled : (tag v : ℕ) → 0 < length (resolutionText tag v)
+unfolding resolutionText
 res-filled tag v = omega arith
 
 -- what stands before and behind a colon, where something stands behind it
@@ -335,35 +282,35 @@ colon-parts s n = by (ltb (before 58 s) (length s)) refl
 
 -- NAME:NUMBER
 pair-spells : (s : List ℕ) → Spells 3 s (pairOf false s)
-unfolding pairOf Writes fieldText
+unfolding pairOf Writable fieldText
 pair-spells s x e =
     let b : ℕ = before 58 s in
     let p = named-only (numberOf (take b s)) (valued 1 (numberOf (drop (b + 1) s))) x e in
     let v = valued-only 1 (numberOf (drop (b + 1) s)) (p .1) (p .3) in
     finish (p .0) (v .0) (p .1) (v .2) (p .4) (number-only (take b s) (p .0) (p .2)) (number-only (drop (b + 1) s) (v .0) (v .1))
   where
-    finish : (a n : ℕ) (y : Cell) → cell 0 1 n ≡ y → cell a (y .tag) (y .value) ≡ x → (a ≤ most) × (numberText a ≡ take (before 58 s) s)
-        → (n ≤ most) × (numberText n ≡ drop (before 58 s + 1) s) → Writes 3 x × (fieldText 3 x ≡ s)
+    finish : (a n : ℕ) (y : Cell) → cell 0 1 n ≡ y → cell a (y .tag) (y .value) ≡ x → (a ≤ most-number) × (numberText a ≡ take (before 58 s) s)
+        → (n ≤ most-number) × (numberText n ≡ drop (before 58 s + 1) s) → Writable 3 x × (fieldText 3 x ≡ s)
     finish a n y q r h g =
         let f : cell a 1 n ≡ x = ap (λ (c : Cell). cell a (c .tag) (c .value)) q ∙ r in
         rw (← f) ((h .0, refl, g .0), rw (h .1, g .1) (colon-parts s (λ z. omega (arith, number-filled n, ap length (g .1 ∙ z)))))
 
 -- NAME:RES
 segment-spells : (s : List ℕ) → Spells 7 s (pairOf true s)
-unfolding pairOf Writes fieldText
+unfolding pairOf Writable fieldText
 segment-spells s x e =
     let b : ℕ = before 58 s in
     let p = named-only (numberOf (take b s)) (resolutionOf (drop (b + 1) s)) x e in
     finish (p .0) (p .1) (p .4) (number-only (take b s) (p .0) (p .2)) (res-only (drop (b + 1) s) (p .1) (p .3))
   where
-    finish : (a : ℕ) (y : Cell) → cell a (y .tag) (y .value) ≡ x → (a ≤ most) × (numberText a ≡ take (before 58 s) s)
-        → (y .name ≡ 0) × IsRes (y .tag) (y .value) × (resText (y .tag) (y .value) ≡ drop (before 58 s + 1) s) → Writes 7 x × (fieldText 7 x ≡ s)
+    finish : (a : ℕ) (y : Cell) → cell a (y .tag) (y .value) ≡ x → (a ≤ most-number) × (numberText a ≡ take (before 58 s) s)
+        → (y .name ≡ 0) × IsRes (y .tag) (y .value) × (resolutionText (y .tag) (y .value) ≡ drop (before 58 s + 1) s) → Writable 7 x × (fieldText 7 x ≡ s)
     finish a y r h g =
         rw (← r) ((h .0, g .1), rw (h .1, g .2) (colon-parts s (λ z. omega (arith, res-filled (y .tag) (y .value), ap length (g .2 ∙ z)))))
 
 -- a field that reads as a cell is the text of that cell
-pub field-only : (c : ℕ) (s : List ℕ) (x : Cell) → readAs c s ≡ Is x → Writes c x × (fieldText c x ≡ s)
-unfolding readAs Writes fieldText
+pub field-only : (c : ℕ) (s : List ℕ) (x : Cell) → readAs c s ≡ Is x → Writable c x × (fieldText c x ≡ s)
+unfolding readAs Writable fieldText
 field-only c s =
     at 1 _ _ (number-spells s)
     (at 2 _ _ (optional-spells s)
@@ -391,55 +338,44 @@ tag-over b =
     (at (eqb b 4) (code "i") _ (omega arith) (at (eqb b 5) (code "e") (code "o") (omega arith) (omega arith)))))
   where
     at : (b : Bool) (x y : ℕ) → 44 < x → 44 < y → 44 < cond b x y
-    at b x y p q = by-test (λ (z : ℕ). 44 < z) b x y (λ e. p) (λ e. q)
+    at = either (λ (z : ℕ). 44 < z)
 
+-- so is an operator of `bin`
 binary-over : (v : ℕ) → 44 < binaryLetter v
 unfolding binaryLetter
-binary-over v = by-test (λ (z : ℕ). 44 < z) (eqb v 0) _ _ (λ e. omega arith) (λ e. by-test (λ (z : ℕ). 44 < z) (eqb v 1) _ _ (λ e. omega arith) (λ e. omega arith))
+binary-over v = either (λ (z : ℕ). 44 < z) (eqb v 0) _ _ (omega arith) (either (λ (z : ℕ). 44 < z) (eqb v 1) _ _ (omega arith) (omega arith))
 
+-- and of `un`
 unary-over : (v : ℕ) → 44 < unaryLetter v
 unfolding unaryLetter
 unary-over v =
-    by-test (λ (z : ℕ). 44 < z) (eqb v 0) _ _ (λ e. omega arith)
-    (λ e. by-test (λ (z : ℕ). 44 < z) (eqb v 1) _ _ (λ e. omega arith) (λ e. by-test (λ (z : ℕ). 44 < z) (eqb v 2) _ _ (λ e. omega arith) (λ e. omega arith)))
+    either (λ (z : ℕ). 44 < z) (eqb v 0) _ _ (omega arith)
+    (either (λ (z : ℕ). 44 < z) (eqb v 1) _ _ (omega arith) (either (λ (z : ℕ). 44 < z) (eqb v 2) _ _ (omega arith) (omega arith)))
 
 -- so is a number
 number-over : (n : ℕ) → Over 44 (numberText n)
 number-over n = digits-over (numberText n) (number-digits n)
 
 -- and RES
-res-over : (tag v : ℕ) → Over 44 (resText tag v)
-unfolding Over resText
-res-over tag v = (tag-over tag, by-test (Over 44) (leb tag 4) (numberText v) [] (λ e. number-over v) (λ e. tt))
+res-over : (tag v : ℕ) → Over 44 (resolutionText tag v)
+unfolding Over resolutionText
+res-over tag v = (tag-over tag, either (Over 44) (leb tag 4) (numberText v) [] (number-over v) tt)
 
 -- and any field
 pub field-over : (c : ℕ) (x : Cell) → Over 44 (fieldText c x)
 unfolding Over fieldText
 field-over c x =
     at 1 _ _ (number-over (x .value))
-    (at 2 _ _ (by-test (Over 44) (eqb (x .tag) 0) (code "-" ∷ []) (numberText (x .value)) (λ e. (omega arith, tt)) (λ e. number-over (x .value)))
+    (at 2 _ _ (either (Over 44) (eqb (x .tag) 0) (code "-" ∷ []) (numberText (x .value)) (omega arith, tt) (number-over (x .value)))
     (at 3 _ _ (over-append 44 (numberText (x .name)) (58 ∷ numberText (x .value)) (number-over (x .name)) (omega arith, number-over (x .value)))
     (at 4 _ _ (binary-over (x .value), tt)
     (at 5 _ _ (unary-over (x .value), tt)
     (at 6 _ _ (res-over (x .tag) (x .value))
-    (at 7 _ _ (over-append 44 (numberText (x .name)) (58 ∷ resText (x .tag) (x .value)) (number-over (x .name)) (omega arith, res-over (x .tag) (x .value))) tt))))))
+    (at 7 _ _ (over-append 44 (numberText (x .name)) (58 ∷ resolutionText (x .tag) (x .value)) (number-over (x .name)) (omega arith, res-over (x .tag) (x .value))) tt))))))
   where
     at : (n : ℕ) (r q : List ℕ) → Over 44 r → Over 44 q → Over 44 (cond (eqb c n) r q)
-    at n r q h g = by-test (Over 44) (eqb c n) r q (λ e. h) (λ e. g)
+    at n = either (Over 44) (eqb c n)
 
--- an empty field is no field
-empty-bad : (c : ℕ) → readAs c [] ≡ Bad
-unfolding readAs letterOf optionalOf pairOf binaryOf unaryOf tagOf taggedOf numberOf before
-empty-bad c = simp bad-arms
-  where
-    bad-arms : (b : Bool) → cond b Bad Bad ≡ Bad
-    bad-arms true = refl
-    bad-arms false = refl
-
--- so the text of a cell is not empty
-pub field-filled : (c : ℕ) (x : Cell) → Writes c x → 0 < length (fieldText c x)
-field-filled c x w = by (fieldText c x) (field-read c x w)
-  where
-    by : (s : List ℕ) → readAs c s ≡ Is x → 0 < length s
-    by [] e = let z : _≡_ {A = ℕ} 0 1 = cc (empty-bad c) in omega arith
-    by (y ∷ s) e = omega arith
+-- the text of a cell is not empty
+pub field-filled : (c : ℕ) (x : Cell) → Writable c x → 0 < length (fieldText c x)
+field-filled c x w = read-filled c (fieldText c x) x (field-read c x w)

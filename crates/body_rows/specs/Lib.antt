@@ -1,13 +1,14 @@
+pub mod Text
 pub mod Numbers
 pub mod Joined
 pub mod Fields
+pub mod ParsedLines
 pub mod Lines
 pub mod File
 pub mod Steps
 pub mod Tables
-pub mod Bodies
+pub mod Rows
 pub mod Linking
 pub mod Accepts
-pub mod Tells
-pub mod Writing
+pub mod Accepted
 pub mod Claims

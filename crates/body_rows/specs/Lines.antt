@@ -18,88 +18,34 @@ use Rattle.forms.specs.declared.Read.the-variants.{Is, Bad}
 use Rattle.forms.specs.declared.Line.the-variants as line
 use Rattle.forms.specs.declared.Fault.the-variants as fault
 use Rattle.forms.specs.Form.{key-type, key-def, key-inst, key-bind, key-node, key-fn, no-key, keyOf, LineForm, forms, no-form, worded, fits, indexOf, formOf, formAt, kindAt, readOf, Cells, refused, cells, prepend, cellsFrom, wrong, parsed, startOf, countOf, withCells, counted, parseLine}
-use Rattle.forms.specs.Words.{form-fits, words-apart}
+use Rattle.forms.specs.Words.{both, form-fits, words-apart}
 use Rattle.well_formed.specs.Counting.{each, each-at}
 use Rattle.well_formed.specs.Parsed.{ParsedGood, parsed-good}
-use Rattle.body_rows.specs.Joined.{Over, over-append, over-less, Without, WithoutAll, over-without, before-part, before-all, before-parts, join, split-some, join-split, split-join}
-use Rattle.body_rows.specs.Fields.{fieldText, Writes, field-read, field-only, field-over, field-filled}
-
--- ── a row of a body, and its text ──
-
--- a line that was read: its form, and the cells of its fields
-pub record Row : Type 0 where
-  pub form : ℕ
-  pub cells : List Cell
-
-abbrev pub row : ℕ → List Cell → Row
-row f l = record { form = f; cells = l }
-
--- the key of a form
-unfoldable pub keyAt : ℕ → ℕ
-keyAt f = getD forms f no-form .key
-
--- its word, empty where it has none
-unfoldable pub wordAt : ℕ → List ℕ
-wordAt f = getD forms f no-form .word
-
--- the texts of fields of the form f, from its field i on
-unfoldable pub fieldTexts : Form → ℕ → List Cell → List (List ℕ)
-fieldTexts f i [] = []
-fieldTexts f i (x ∷ xs) = fieldText (kindAt f i / 16) x ∷ fieldTexts f (i + 1) xs
-
--- the word before the fields, where there is one
-unfoldable pub lead : List ℕ → List (List ℕ) → List (List ℕ)
-lead [] ss = ss
-lead (x ∷ u) ss = (x ∷ u) ∷ ss
-
--- a line's value: its word and its fields, with commas between them
-unfoldable pub valueText : Row → List ℕ
-valueText r = join 44 (lead (wordAt (r .form)) (fieldTexts (formAt (r .form)) 0 (r .cells)))
-
--- a key
-unfoldable pub keyText : ℕ → List ℕ
-keyText k =
-    cond (eqb k key-type) (text "type")
-    (cond (eqb k key-def) (text "def") (cond (eqb k key-inst) (text "inst") (cond (eqb k key-bind) (text "bind") (cond (eqb k key-node) (text "node") (text "fn")))))
-
--- a line, without its line feed
-unfoldable pub lineText : Row → List ℕ
-lineText r = keyText (keyAt (r .form)) ++ 61 ∷ valueText r
-
--- ── which rows have a text ──
-
--- each cell is one that its field can have
-unfoldable pub WritesAll : Form → ℕ → List Cell → Type 0
-WritesAll f i [] = Unit {0}
-WritesAll f i (x ∷ xs) = Writes (kindAt f i / 16) x × WritesAll f (i + 1) xs
-
--- a row of a form, with as many fields as the form has, each with a cell that it can have
-pub record WritesRow (r : Row) : Type 0 where
-  pub form : r .form < 30
-  pub least : formAt (r .form) .4 ≤ length (r .cells)
-  pub most : length (r .cells) ≤ formAt (r .form) .5
-  pub fields : WritesAll (formAt (r .form)) 0 (r .cells)
+use Rattle.body_rows.specs.Text.{fieldText, join, Row, row, keyAt, wordAt, fieldTexts, lead, valueText, keyText, lineText, WritableFrom, WritableRow}
+use Rattle.body_rows.specs.Joined.{Over, over-append, over-less, Without, WithoutAll, over-without, before-part, before-all, before-parts, split-some, join-split, split-join}
+use Rattle.body_rows.specs.Fields.{field-read, field-only, field-over, field-filled}
 
 -- ── the table of forms ──
 
 -- each byte is above n, as a test
-unfoldable overb : ℕ → List ℕ → Bool
-overb n [] = true
-overb n (x ∷ xs) = cond (ltb n x) (overb n xs) false
+unfoldable overTest : ℕ → List ℕ → Bool
+overTest n [] = true
+overTest n (x ∷ xs) = cond (ltb n x) (overTest n xs) false
 
-over-true : (n : ℕ) (s : List ℕ) → overb n s ≡ true → Over n s
-unfolding overb Over
+-- the test shows it
+over-true : (n : ℕ) (s : List ℕ) → overTest n s ≡ true → Over n s
+unfolding overTest Over
 over-true n [] e = tt
 over-true n (x ∷ s) e = by (ltb n x) refl e (over-true n s)
   where
-    by : (b : Bool) → ltb n x ≡ b → cond b (overb n s) false ≡ true → (overb n s ≡ true → Over n s) → (n < x) × Over n s
+    by : (b : Bool) → ltb n x ≡ b → cond b (overTest n s) false ≡ true → (overTest n s ≡ true → Over n s) → (n < x) × Over n s
     by true p e ih = (ltb-true n x p, ih e)
     by false p e ih = absurd (false≢true e)
 
 -- the words of forms are letters
 word-over : (f : ℕ) → f < 30 → Over 61 (wordAt f)
-unfolding each forms wordAt overb
-word-over f h = over-true 61 (wordAt f) (each-at 30 (λ (x : ℕ). overb 61 (wordAt x)) f refl h)
+unfolding each forms wordAt overTest
+word-over f h = over-true 61 (wordAt f) (each-at 30 (λ (x : ℕ). overTest 61 (wordAt x)) f refl h)
 
 -- a form's key is one
 pub key-low : (f : ℕ) → f < 30 → keyAt f < 6
@@ -111,30 +57,35 @@ unfoldable startFor : List ℕ → List ℕ → ℕ
 startFor [] v = cond (eqb (length v) 0) 1 0
 startFor (x ∷ u) v = before 44 v + 1
 
--- the forms of the keys with words have words, and no others
-unfoldable hasWord : List ℕ → Bool
+-- a word that is there
+unfoldable pub hasWord : List ℕ → Bool
 hasWord [] = false
 hasWord (x ∷ u) = true
 
+-- a key whose lines have a word
 unfoldable wordKey : ℕ → Bool
 wordKey k = cond (eqb k key-type) true (eqb k key-node)
 
-unfoldable agree : Bool → Bool → Bool
+-- two tests that agree
+unfoldable pub agree : Bool → Bool → Bool
 agree true b = b
 agree false true = false
 agree false false = true
 
-agree-eq : (a b : Bool) → agree a b ≡ true → a ≡ b
+-- tests that agree are the same
+pub agree-eq : (a b : Bool) → agree a b ≡ true → a ≡ b
 unfolding agree
 agree-eq true b e = sym e
 agree-eq false true e = e
 agree-eq false false e = refl
 
+-- the forms of the keys with words have words, and no others
 word-key : (f : ℕ) → f < 30 → wordKey (keyAt f) ≡ hasWord (wordAt f)
 unfolding each forms keyAt wordAt hasWord wordKey agree
 word-key f h =
     agree-eq (wordKey (keyAt f)) (hasWord (wordAt f)) (each-at 30 (λ (x : ℕ). agree (wordKey (keyAt x)) (hasWord (wordAt x))) f refl h)
 
+-- by the key the fields begin where they do by the word
 start-by : (k : ℕ) (u v : List ℕ) → wordKey k ≡ hasWord u → startOf k (length v) (before 44 v) ≡ startFor u v
 unfolding startOf startFor wordKey hasWord
 start-by k [] v = by (eqb k key-type) (eqb k key-node)
@@ -150,6 +101,7 @@ start-by k (x ∷ u) v = by (eqb k key-type) (eqb k key-node)
     by false true e = refl
     by false false e = absurd (false≢true e)
 
+-- where the fields of a form's value begin
 start-is : (f : ℕ) (v : List ℕ) → f < 30 → startOf (keyAt f) (length v) (before 44 v) ≡ startFor (wordAt f) v
 start-is f v h = start-by (keyAt f) (wordAt f) v (word-key f h)
 
@@ -228,14 +180,15 @@ unfolding WithoutAll fieldTexts
 texts-without f i [] = tt
 texts-without f i (x ∷ l) = (over-without 44 44 (fieldText (kindAt f i / 16) x) (omega arith) (field-over (kindAt f i / 16) x), texts-without f (i + 1) l)
 
-texts-filled : (f : Form) (i : ℕ) (l : List Cell) → WritesAll f i l → Filled (fieldTexts f i l)
-unfolding Filled fieldTexts WritesAll
+-- none of them is empty
+texts-filled : (f : Form) (i : ℕ) (l : List Cell) → WritableFrom f i l → Filled (fieldTexts f i l)
+unfolding Filled fieldTexts WritableFrom
 texts-filled f i [] w = tt
 texts-filled f i (x ∷ l) w = field-filled (kindAt f i / 16) x (w .0)
 
 -- the cells of their texts
-cells-read : (f : Form) (i : ℕ) (l : List Cell) → WritesAll f i l → cellsFrom f i (fieldTexts f i l) ≡ cells l
-unfolding cellsFrom fieldTexts WritesAll
+cells-read : (f : Form) (i : ℕ) (l : List Cell) → WritableFrom f i l → cellsFrom f i (fieldTexts f i l) ≡ cells l
+unfolding cellsFrom fieldTexts WritableFrom
 cells-read f i [] w = refl
 cells-read f i (x ∷ l) w = rw (field-read (kindAt f i / 16) x (w .0), cells-read f (i + 1) l (w .1))
 
@@ -247,8 +200,8 @@ prepend-only (Is x) (refused l′) l e = let z : _≡_ {A = ℕ} 0 1 = cc in abs
 prepend-only (Is x) (cells t) l e = (x, t, refl, refl, cc)
 
 -- fields that read as cells are the texts of those cells
-cells-only : (f : Form) (i : ℕ) (ss : List (List ℕ)) (l : List Cell) → cellsFrom f i ss ≡ cells l → WritesAll f i l × (fieldTexts f i l ≡ ss)
-unfolding cellsFrom fieldTexts WritesAll
+cells-only : (f : Form) (i : ℕ) (ss : List (List ℕ)) (l : List Cell) → cellsFrom f i ss ≡ cells l → WritableFrom f i l × (fieldTexts f i l ≡ ss)
+unfolding cellsFrom fieldTexts WritableFrom
 cells-only f i [] l e = let q : [] ≡ l = cc in rw (← q) (tt, refl)
 cells-only f i (s ∷ ss) l e =
     let p = prepend-only (readOf (kindAt f i) s) (cellsFrom f (i + 1) ss) l e in
@@ -282,7 +235,7 @@ form-is f v h p =
     low = index-low (keyAt f) (take (before 44 v) v) forms f h own
 
 -- a row's value is read as the row
-pub value-read : (r : Row) → WritesRow r → parseLine (keyAt (r .form)) (valueText r) ≡ parsed (r .form) (r .cells)
+pub value-read : (r : Row) → WritableRow r → parseLine (keyAt (r .form)) (valueText r) ≡ parsed (r .form) (r .cells)
 unfolding parseLine valueText countOf
 value-read r w =
     rw (
@@ -318,24 +271,19 @@ counted-only i g (cells t) f l e = by (ltb (length t) (g .4)) (ltb (g .5) (lengt
     by false true e = let z : _≡_ {A = ℕ} 0 1 = cc in absurd (omega arith)
     by false false e = let q : t ≡ l = cc in (ap cells q, cc)
 
--- two tests, where both hold
-both : (b c : Bool) → cond b c false ≡ true → (b ≡ true) × (c ≡ true)
-both true c h = (refl, h)
-both false c h = absurd (false≢true h)
-
 -- the form that a value fits has its word
 fits-word : (k : ℕ) (w : List ℕ) (f : ℕ) → fits k w (getD forms f no-form) ≡ true → worded (wordAt f) w ≡ true
 unfolding fits wordAt
 fits-word k w f p = both (eqb (getD forms f no-form .key) k) (worded (getD forms f no-form .word) w) p .1
 
 -- a value of the key k is the row r, and is written as it stands
-pub record Read-as (k : ℕ) (v : List ℕ) (r : Row) : Type 0 where
-  pub writes : WritesRow r
+pub record ReadAs (k : ℕ) (v : List ℕ) (r : Row) : Type 0 where
+  pub writable : WritableRow r
   pub key : keyAt (r .form) ≡ k
   pub value : valueText r ≡ v
 
 -- a value that reads as a row is what the row is written as
-pub value-only : (k : ℕ) (v : List ℕ) (f : ℕ) (l : List Cell) → parseLine k v ≡ parsed f l → Read-as k v (row f l)
+pub value-only : (k : ℕ) (v : List ℕ) (f : ℕ) (l : List Cell) → parseLine k v ≡ parsed f l → ReadAs k v (row f l)
 unfolding parseLine keyAt valueText
 value-only k v f l e = by (ltb (formOf k v) 30) refl e
   where
@@ -345,13 +293,13 @@ value-only k v f l e = by (ltb (formOf k v) 30) refl e
     own : keyAt f ≡ k
     own = good .key
 
-    made : formOf k v ≡ f → formOf k v < 30 → cellsFrom (formAt f) 0 (fieldsFrom (startOf k (length v) (before 44 v)) v) ≡ cells l → Read-as k v (row f l)
+    made : formOf k v ≡ f → formOf k v < 30 → cellsFrom (formAt f) 0 (fieldsFrom (startOf k (length v) (before 44 v)) v) ≡ cells l → ReadAs k v (row f l)
     made q h c =
         let w : worded (wordAt f) (take (before 44 v) v) ≡ true = fits-word k (take (before 44 v) v) f (rw q at (form-fits k v h)) in
         let s : startOf k (length v) (before 44 v) ≡ startFor (wordAt f) v = ap (λ (j : ℕ). startOf j (length v) (before 44 v)) (sym own) ∙ start-is f v (good .form) in
         let r = cells-only (formAt f) 0 (fieldsFrom (startOf k (length v) (before 44 v)) v) l c in
         record {
-          writes = record { form = good .form; least = good .least; most = good .most; fields = r .0 };
+          writable = record { form = good .form; least = good .least; most = good .most; fields = r .0 };
           key = own;
           value = text-back (rw s at (r .1)) w;
         }
@@ -361,7 +309,7 @@ value-only k v f l e = by (ltb (formOf k v) 30) refl e
 
     by : (b : Bool) → ltb (formOf k v) 30 ≡ b
         → cond b (counted (formOf k v) (formAt (formOf k v)) (cellsFrom (formAt (formOf k v)) 0 (fieldsFrom (startOf k (length v) (before 44 v)) v))) (wrong fault.Form []) ≡ parsed f l
-        → Read-as k v (row f l)
+        → ReadAs k v (row f l)
     by true p e =
         let c = counted-only (formOf k v) (formAt (formOf k v)) (cellsFrom (formAt (formOf k v)) 0 (fieldsFrom (startOf k (length v) (before 44 v)) v)) f l e in
         made (c .1) (ltb-true (formOf k v) 30 p) (rw (c .1) at (c .0))
@@ -371,8 +319,8 @@ value-only k v f l e = by (ltb (formOf k v) 30) refl e
 
 -- the letters of keys are above the equals sign
 key-over : (k : ℕ) → k < 6 → Over 61 (keyText k)
-unfolding each keyText overb
-key-over k h = over-true 61 (keyText k) (each-at 6 (λ (x : ℕ). overb 61 (keyText x)) k refl h)
+unfolding each keyText overTest
+key-over k h = over-true 61 (keyText k) (each-at 6 (λ (x : ℕ). overTest 61 (keyText x)) k refl h)
 
 -- a key's text is that key
 pub key-read : (k : ℕ) → k < 6 → keyOf (keyText k) ≡ k
@@ -414,16 +362,19 @@ over-join [] n h p = tt
 over-join (s ∷ []) n h p = p .0
 over-join (s ∷ t ∷ ts) n h p = over-append n s (44 ∷ join 44 (t ∷ ts)) (p .0) (h, over-join (t ∷ ts) n h (p .1))
 
+-- nor has a field
 texts-over : (f : Form) (i : ℕ) (l : List Cell) → OverAll 43 (fieldTexts f i l)
 unfolding OverAll fieldTexts
 texts-over f i [] = tt
 texts-over f i (x ∷ l) = (over-less 43 44 (fieldText (kindAt f i / 16) x) (omega arith) (field-over (kindAt f i / 16) x), texts-over f (i + 1) l)
 
+-- nor has a word before them
 lead-over : (u : List ℕ) (ss : List (List ℕ)) → Over 43 u → OverAll 43 ss → OverAll 43 (lead u ss)
 unfolding lead OverAll
 lead-over [] ss p q = q
 lead-over (x ∷ u) ss p q = (p, q)
 
+-- so none has a line
 pub line-over : (r : Row) → r .form < 30 → Over 43 (lineText r)
 unfolding lineText valueText Over
 line-over r h =

@@ -6,7 +6,7 @@ use native.Mathlib.Omega.{arith}
 use mathlib.Core.Path.{_≡_, refl, sym, ap, _∙_}
 use mathlib.Core.Logic.{_⊎_, inl, inr}
 use mathlib.Core.List.{List}
-use mathlib.Core.Bool.{Bool, true, false, cond, not, false≢true}
+use mathlib.Core.Bool.{Bool, true, false, cond, not}
 use lib.Dec.{leb, ltb, eqb}
 use lib.ListN.{length, getD, set}
 use lib.Seq.{getD-set-other}
@@ -16,39 +16,38 @@ use Rattle.forms.specs.declared.Cell.{Cell}
 use Rattle.forms.specs.Form.{key-bind, key-node, forms, formAt, kindAt}
 use Rattle.refs.specs.declared.Counts.{Counts}
 use Rattle.refs.specs.Refs.{nodes-at, fixed-types, diverges, form-param, formIn, firstIn, countIn, userIn, tagIn, valueIn, a-type, a-def, a-node, a-res, refersTo, isChild, isType, isExpr, isTyped, isLast, stands, isFree, isLocal, isRes, right, levelsOf, larger, taken, unlinked, linked, refsFrom, sameValues, isSame, isRepeated}
+use Rattle.forms.specs.Words.{both}
 use Rattle.well_formed.specs.Counting.{each, each-at}
 use Rattle.well_formed.specs.Kept.{stands-same}
 use Rattle.well_formed.specs.Parsed.{blank}
-use Rattle.body_rows.specs.Lines.{Row, keyAt, WritesRow}
-use Rattle.body_rows.specs.Steps.{cellsAt, rowAt, cells-length-at, cells-at}
-use Rattle.body_rows.specs.Tables.{Look}
-use Rattle.body_rows.specs.Bodies.{cellOf, isTypedRow, standsRow, FieldOk, valuesOf}
+use Rattle.body_rows.specs.Text.{Row, keyAt, Lookup, cellsAt, rowAt, WritableRow}
+use Rattle.body_rows.specs.Steps.{cells-length-at, cells-at}
+use Rattle.body_rows.specs.Rows.{cellOf, isTypedRow, standsRow, WellFormedField, valuesOf}
 
 -- ── the kinds of fields ──
 
 -- a def is named only by a `bind` or later, a node and RES only by a node or `fn`; a node is written as a number or as one that may be absent
-unfoldable kindb : ℕ → ℕ → Bool
-kindb k κ =
+unfoldable kindTest : ℕ → ℕ → Bool
+kindTest k κ =
     cond (eqb (refersTo κ) a-def) (leb key-bind k)
     (cond (eqb (refersTo κ) a-node) (cond (leb key-node k) (cond (eqb (κ / 16) 1) true (eqb (κ / 16) 2)) false)
     (cond (eqb (refersTo κ) a-res) (leb key-node k) true))
 
+-- what is so known of the kind κ of a field of the key k
 pub record Kinds (k κ : ℕ) : Type 0 where
   pub def-late : refersTo κ ≡ a-def → key-bind ≤ k
   pub node-late : refersTo κ ≡ a-node → key-node ≤ k
   pub node-way : refersTo κ ≡ a-node → (κ / 16 ≡ 1) ⊎ (κ / 16 ≡ 2)
   pub res-late : refersTo κ ≡ a-res → key-node ≤ k
 
-both : (b c : Bool) → cond b c false ≡ true → (b ≡ true) × (c ≡ true)
-both true c h = (refl, h)
-both false c h = absurd (false≢true h)
-
+-- one of two tests
 one-of : (a b : ℕ) (c d : Bool) → eqb a b ≡ c → cond c true d ≡ true → (a ≡ b) ⊎ (d ≡ true)
 one-of a b true d e h = inl (eqb-true a b e)
 one-of a b false d e h = inr h
 
-kinds-by : (k κ : ℕ) → kindb k κ ≡ true → Kinds k κ
-unfolding kindb
+-- the test shows it
+kinds-by : (k κ : ℕ) → kindTest k κ ≡ true → Kinds k κ
+unfolding kindTest
 kinds-by k κ h = record {
   def-late = λ e. leb-true key-bind k (rw e at h);
   node-late = λ e. leb-true key-node k (both (leb key-node k) (cond (eqb (κ / 16) 1) true (eqb (κ / 16) 2)) (rw e at h) .0);
@@ -69,13 +68,14 @@ kind-four g (suc (suc zero)) = (2, omega arith, refl)
 kind-four g (suc (suc (suc a))) =
     (3, omega arith, rw (ne-eqb (suc (suc (suc a))) 0 (λ e. omega (arith, e)), ne-eqb (suc (suc (suc a))) 1 (λ e. omega (arith, e)), ne-eqb (suc (suc (suc a))) 2 (λ e. omega (arith, e))))
 
+-- every kind of every form passes
 pub form-kinds : (f a : ℕ) → f < 30 → Kinds (keyAt f) (kindAt (formAt f) a)
-unfolding each forms formAt keyAt kindAt refersTo kindb
+unfolding each forms formAt keyAt kindAt refersTo kindTest
 form-kinds f a h =
     let b = kind-four (formAt f) a in
     rw (b .2)
     (kinds-by (keyAt f) (kindAt (formAt f) (b .0))
-    (each-at 4 (λ (y : ℕ). kindb (keyAt f) (kindAt (formAt f) y)) (b .0) (each-at 30 (λ (x : ℕ). each 4 (λ (y : ℕ). kindb (keyAt x) (kindAt (formAt x) y))) f refl h) (b .1)))
+    (each-at 4 (λ (y : ℕ). kindTest (keyAt f) (kindAt (formAt f) y)) (b .0) (each-at 30 (λ (x : ℕ). each 4 (λ (y : ℕ). kindTest (keyAt x) (kindAt (formAt x) y))) f refl h) (b .1)))
 
 -- ── a row that stands at a place ──
 
@@ -84,31 +84,35 @@ module _ (rows cells : List ℕ) (p : ℕ) (r : Row) (q : rowAt rows cells p ≡
   unfolding rowAt
   form-seen = ap (λ (x : Row). x .form) q
 
+  -- how many fields a row in the tables has
   pub count-seen : countIn rows p ≡ length (r .cells)
   unfolding rowAt
   count-seen = sym (cells-length-at cells (firstIn rows p) (countIn rows p)) ∙ ap (λ (x : Row). length (x .cells)) q
 
+  -- their cells
   pub cells-seen : cellsAt cells (firstIn rows p) (countIn rows p) ≡ r .cells
   unfolding rowAt
   cells-seen = ap (λ (x : Row). x .cells) q
 
+  -- a tag
   pub tag-seen : (a : ℕ) → a < length (r .cells) → tagIn cells (firstIn rows p + a) ≡ cellOf r a .tag
   unfolding rowAt
   tag-seen a h =
       sym (ap (λ (c : Cell). c .tag) (cells-at cells (firstIn rows p) (countIn rows p) a blank (omega (arith, h, count-seen)))) ∙ ap (λ (x : Row). getD (x .cells) a blank .tag) q
 
+  -- and a value
   pub value-seen : (a : ℕ) → a < length (r .cells) → valueIn cells (firstIn rows p + a) ≡ cellOf r a .value
   unfolding rowAt
   value-seen a h =
       sym (ap (λ (c : Cell). c .value) (cells-at cells (firstIn rows p) (countIn rows p) a blank (omega (arith, h, count-seen)))) ∙ ap (λ (x : Row). getD (x .cells) a blank .value) q
 
 -- a `param` has a field
-param-filled : (r : Row) → WritesRow r → r .form ≡ form-param → 0 < length (r .cells)
+param-filled : (r : Row) → WritableRow r → r .form ≡ form-param → 0 < length (r .cells)
 unfolding forms formAt
 param-filled r w e = let l : 1 ≤ length (r .cells) = rw e at (w .least) in l
 
 -- whether a row is a `param` with a type
-typed-seen : (p : ℕ) (rows cells : List ℕ) (r : Row) → rowAt rows cells p ≡ r → WritesRow r → isTyped p rows cells ≡ isTypedRow r
+typed-seen : (p : ℕ) (rows cells : List ℕ) (r : Row) → rowAt rows cells p ≡ r → WritableRow r → isTyped p rows cells ≡ isTypedRow r
 unfolding isTyped isTypedRow
 typed-seen p rows cells r q w = rw (form-seen rows cells p r q) (by (eqb (r .form) form-param) refl)
   where
@@ -120,7 +124,7 @@ typed-seen p rows cells r q w = rw (form-seen rows cells p r q) (by (eqb (r .for
     by false e = refl
 
 -- whether a row's node may stand as a child
-pub stands-seen : (n : Counts) (k x : ℕ) (rows cells : List ℕ) (r : Row) → rowAt rows cells (nodes-at + x) ≡ r → WritesRow r → stands n k x rows cells ≡ standsRow n k x r
+pub stands-seen : (n : Counts) (k x : ℕ) (rows cells : List ℕ) (r : Row) → rowAt rows cells (nodes-at + x) ≡ r → WritableRow r → stands n k x rows cells ≡ standsRow n k x r
 unfolding stands standsRow
 stands-seen n k x rows cells r q w = rw (typed-seen (nodes-at + x) rows cells r q w, form-seen rows cells (nodes-at + x) r q)
 
@@ -161,22 +165,24 @@ res-ok n tag x rows l e f c i = by (eqb tag 1) refl (eqb tag 2) refl (eqb tag 3)
 pub record Tagged (κ tag : ℕ) : Type 0 where
   pub child : refersTo κ ≡ a-node → (tag ≡ 0 → ⊥) → isChild κ tag ≡ true
 
-module _ (k : ℕ) (n n′ : Counts) (look : Look) (κ : ℕ) (c : Cell) (rows cells : List ℕ) (agree : Agree k n n′) (kinds : Kinds k κ) (tagged : Tagged κ (c .tag)) (ok : FieldOk n′ look κ c)
-    (seen : (x : ℕ) → x < n .nodes → rowAt rows cells (nodes-at + x) ≡ look key-node x) (written : (x : ℕ) → x < n .nodes → WritesRow (look key-node x))
+module _ (k : ℕ) (n n′ : Counts) (look : Lookup) (κ : ℕ) (c : Cell) (rows cells : List ℕ) (agree : Agree k n n′) (kinds : Kinds k κ) (tagged : Tagged κ (c .tag)) (ok : WellFormedField n′ look κ c)
+    (seen : (x : ℕ) → x < n .nodes → rowAt rows cells (nodes-at + x) ≡ look key-node x) (written : (x : ℕ) → x < n .nodes → WritableRow (look key-node x))
     (free : isChild κ (c .tag) ≡ true → userIn rows (nodes-at + c .value) ≡ 0) where
   last : key-node ≤ k → standsRow n κ (c .value) (look key-node (c .value)) ≡ standsRow n′ κ (c .value) (look key-node (c .value))
   unfolding standsRow isLast
   last h = rw (agree .nodes h)
 
-  child-ok : refersTo κ ≡ a-node → (c .tag ≡ 0 → ⊥) → isFree n κ (c .value) rows cells ≡ true
-  child-ok e t =
+  -- a child that is right is free
+  child-free : refersTo κ ≡ a-node → (c .tag ≡ 0 → ⊥) → isFree n κ (c .value) rows cells ≡ true
+  child-free e t =
       let h : isChild κ (c .tag) ≡ true = tagged .child e t in
       let l : c .value < n .nodes = omega (arith, ok .child-lower h, agree .nodes (kinds .node-late e)) in
       free-ok n κ (c .value) rows cells l (free h)
       (stands-seen n κ (c .value) rows cells (look key-node (c .value)) (seen (c .value) l) (written (c .value) l) ∙ last (kinds .node-late e) ∙ ok .child-stands h)
 
-  local-ok : refersTo κ ≡ a-res → c .tag ≡ 1 → c .value < n .nodes
-  local-ok e t = omega (arith, ok .local-lower e t, agree .nodes (kinds .res-late e))
+  -- a local that is right is a let or a parameter
+  local-right : refersTo κ ≡ a-res → c .tag ≡ 1 → c .value < n .nodes
+  local-right e t = omega (arith, ok .local-lower e t, agree .nodes (kinds .res-late e))
 
   -- it is right
   pub field-right : right n κ (c .tag) (c .value) rows cells ≡ true
@@ -193,11 +199,11 @@ module _ (k : ℕ) (n n′ : Counts) (look : Look) (κ : ℕ) (c : Cell) (rows c
       by false z false e true f s g t h =
           let d : refersTo κ ≡ a-def = eqb-true (refersTo κ) a-def f in
           lt-ltb (c .value) (n .defs) (omega (arith, ok .def d, agree .defs (kinds .def-late d)))
-      by false z false e false f true g t h = child-ok (eqb-true (refersTo κ) a-node g) (eqb-false (c .tag) 0 z)
+      by false z false e false f true g t h = child-free (eqb-true (refersTo κ) a-node g) (eqb-false (c .tag) 0 z)
       by false z false e false f false g true h =
           let d : refersTo κ ≡ a-res = eqb-true (refersTo κ) a-res h in
           let late : key-node ≤ k = kinds .res-late d in
-          res-ok n (c .tag) (c .value) rows (local-ok d) (λ t. ap isExpr (form-seen rows cells (nodes-at + c .value) (look key-node (c .value)) (seen (c .value) (local-ok d t))) ∙ ok .local d t)
+          res-ok n (c .tag) (c .value) rows (local-right d) (λ t. ap isExpr (form-seen rows cells (nodes-at + c .value) (look key-node (c .value)) (seen (c .value) (local-right d t))) ∙ ok .local d t)
           (λ t. omega (arith, ok .res-fn d t, agree .defs (omega (arith, late)))) (λ t. omega (arith, ok .res-constructor d t, agree .defs (omega (arith, late))))
           (λ t. omega (arith, ok .res-inst d t, agree .insts late))
       by false z false e false f false g false h = refl
@@ -252,6 +258,7 @@ shift Q i j m h a b =
     let q : j + 1 + a ≡ j + suc a = omega arith in
     rw (p, q) (h (suc a) (omega arith))
 
+-- what holds of all fields holds of the first
 first-one : (Q : ℕ → ℕ → Type 0) (i j m : ℕ) → ((a : ℕ) → a < suc m → Q (i + a) (j + a)) → Q i j
 first-one Q i j m h = rw (add-zero i, add-zero j) at (h 0 (omega arith))
 

@@ -13,57 +13,33 @@ use Rattle.forms.specs.Form.{key-type, key-def, key-inst, key-bind, key-node, k
 use Rattle.refs.specs.declared.Counts.{Counts}
 use Rattle.body.specs.declared.State.{State}
 use Rattle.body.specs.declared.Answer.the-variants as answer
-use Rattle.body.specs.Body.{most-bytes, first, countOf, baseOf, counted, advance, Stepped, bad, next, firstAhead, refused, read, finishOf, proceed, zeros, bodyOf}
+use Rattle.lex.specs.Text.{partsFrom}
+use Rattle.body.specs.Body.{most-bytes, rows-length, cells-length, Ended, linesFrom, Held, held, settle, first, countOf, baseOf, counted, advance, Stepped, bad, next, firstAhead, refused, read, finishOf, proceed, zeros, bodyOf}
 use Rattle.well_formed.specs.Counting.{counted-own}
 use Rattle.well_formed.specs.Bytes.{Enough}
 use Rattle.well_formed.specs.Reading.{Reading}
-use Rattle.well_formed.specs.Step.{GoodStep, step-good}
+use Rattle.well_formed.specs.Step.{GoodStep, in-order, step-good}
 use Rattle.well_formed.specs.WellFormed.{start-reading}
-use Rattle.body_rows.specs.Lines.{Row, row, keyAt, lineText, WritesRow}
-use Rattle.body_rows.specs.File.{fileText, WritesRows, stepRow, rowsFrom, step-read, in-order, FileIs, file-only}
-use Rattle.body_rows.specs.Steps.{rowAt, storedOf, placeOf, putOf, stateOf, Made, WasMade, step-made, row-old, row-new}
-
--- ── definitions ──
-
--- the rows of a body, by key and number
-abbrev pub Look : Type 0
-Look = ℕ → ℕ → Row
-
--- m rows from the number i on
-unfoldable pub listed : (ℕ → Row) → ℕ → ℕ → List Row
-listed f i zero = []
-listed f i (suc m) = f i ∷ listed f (i + 1) m
-
--- the rows of m keys from k on
-unfoldable pub keysFrom : Counts → Look → ℕ → ℕ → List Row
-keysFrom n look k zero = []
-keysFrom n look k (suc m) = listed (look k) 0 (countOf n k) ++ keysFrom n look (k + 1) m
-
--- the rows of a body in the order of the file: those of the five keys, then `fn`
-unfoldable pub bodyRows : Counts → Look → List Row
-bodyRows n look = keysFrom n look 0 5 ++ (look key-fn 0 ∷ [])
-
--- those of tables
-abbrev pub lookIn : List ℕ → List ℕ → Look
-lookIn rows cells k i = rowAt rows cells (baseOf k + i)
-
--- the text of tables
-unfoldable pub textOf : Counts → List ℕ → List ℕ → List ℕ
-textOf n rows cells = fileText (bodyRows n (lookIn rows cells))
+use Rattle.body_rows.specs.Text.{Row, keyAt, lineText, fileText, Lookup, listed, keysFrom, bodyRows, rowAt, lookupIn, fileTextIn, WritableRow, WritableRows}
+use Rattle.body_rows.specs.ParsedLines.{parsedFrom}
+use Rattle.body_rows.specs.File.{stepRow, rowsFrom, step-read, FileIs, file-only}
+use Rattle.body_rows.specs.Steps.{cellsBehind, placeOf, rowsBehind, stateBehind, Made, WasMade, step-made, row-old, row-new}
 
 -- ── lists of rows ──
 
+-- rows that are alike are listed alike
 pub listed-same : (f g : ℕ → Row) (i m : ℕ) → ((x : ℕ) → x < i + m → f x ≡ g x) → listed f i m ≡ listed g i m
 unfolding listed
 listed-same f g i zero h = refl
 listed-same f g i (suc m) h = rw (h i (omega arith), listed-same f g (i + 1) m (λ x b. h x (omega arith)))
 
+-- the last of m + 1 rows
 listed-snoc : (f : ℕ → Row) (i m : ℕ) → listed f i (suc m) ≡ listed f i m ++ (f (i + m) ∷ [])
 unfolding listed
 listed-snoc f i zero = ap (λ (x : ℕ). f x ∷ []) {x = i} {y = i + 0} (omega arith)
 listed-snoc f i (suc m) = ap (λ (t : List Row). f i ∷ t) (listed-snoc f (i + 1) m ∙ ap (λ (x : ℕ). listed f (i + 1) m ++ (f x ∷ [])) {x = i + 1 + m} {y = i + suc m} (omega arith))
 
-module _ (n n′ : Counts) (look look′ : Look) (κ : ℕ) (r : Row) (other : (j : ℕ) → j < 5 → (j ≡ κ → ⊥) → countOf n′ j ≡ countOf n j)
+module _ (n n′ : Counts) (look look′ : Lookup) (κ : ℕ) (r : Row) (other : (j : ℕ) → j < 5 → (j ≡ κ → ⊥) → countOf n′ j ≡ countOf n j)
     (old : (j i : ℕ) → i < countOf n j → look′ j i ≡ look j i) where
   -- the rows of another key
   key-same : (j : ℕ) → j < 5 → (j ≡ κ → ⊥) → listed (look′ j) 0 (countOf n′ j) ≡ listed (look j) 0 (countOf n j)
@@ -126,8 +102,8 @@ unfolding countOf
 fn-none n = refl
 
 -- the rows that were read: those of the five keys, and `fn` where the state is behind it
-unfoldable pub sofar : State → List ℕ → List ℕ → List Row
-sofar st rows cells = keysFrom (st .counts) (lookIn rows cells) 0 5 ++ cond (eqb (st .key) key-fn) (lookIn rows cells key-fn 0 ∷ []) []
+unfoldable pub rowsRead : State → List ℕ → List ℕ → List Row
+rowsRead st rows cells = keysFrom (st .counts) (lookupIn rows cells) 0 5 ++ cond (eqb (st .key) key-fn) (lookupIn rows cells key-fn 0 ∷ []) []
 
 module _ (r : Row) (st : State) (cells rows : List ℕ) (e : ℕ) (rows′ : List ℕ) (m : Made r st cells rows e rows′) (reading : Reading st cells rows)
     (wide : (st .counts .fields + length (r .cells)) * 3 ≤ length cells) where
@@ -143,36 +119,36 @@ module _ (r : Row) (st : State) (cells rows : List ℕ) (e : ℕ) (rows′ : Lis
       by false p = omega (arith, ltb-false 0 (countOf (st .counts) j) p)
 
   -- one row more was read
-  pub sofar-more : sofar (stateOf r st e) (putOf r st e rows′) (storedOf r st cells) ≡ sofar st rows cells ++ (r ∷ [])
-  unfolding sofar advance
-  sofar-more = by (eqb κ key-fn) refl
+  pub rows-read-more : rowsRead (stateBehind r st e) (rowsBehind r st e rows′) (cellsBehind r st cells) ≡ rowsRead st rows cells ++ (r ∷ [])
+  unfolding rowsRead advance
+  rows-read-more = by (eqb κ key-fn) refl
     where
-      before : keysFrom (st .counts) (lookIn rows cells) 0 5 ++ cond (eqb (st .key) key-fn) (lookIn rows cells key-fn 0 ∷ []) [] ≡ keysFrom (st .counts) (lookIn rows cells) 0 5
-      before = rw (ne-eqb (st .key) key-fn (in-order (st .key) κ (m .order) .2)) (append-nil (keysFrom (st .counts) (lookIn rows cells) 0 5))
+      before : keysFrom (st .counts) (lookupIn rows cells) 0 5 ++ cond (eqb (st .key) key-fn) (lookupIn rows cells key-fn 0 ∷ []) [] ≡ keysFrom (st .counts) (lookupIn rows cells) 0 5
+      before = rw (ne-eqb (st .key) key-fn (in-order (st .key) κ (m .order) .2)) (append-nil (keysFrom (st .counts) (lookupIn rows cells) 0 5))
 
       other : (j : ℕ) → j < 5 → (j ≡ κ → ⊥) → countOf (counted (st .counts) κ (length (r .cells))) j ≡ countOf (st .counts) j
       other = counted-other (st .counts) κ (length (r .cells))
 
-      old : (j i : ℕ) → i < countOf (st .counts) j → lookIn (putOf r st e rows′) (storedOf r st cells) j i ≡ lookIn rows cells j i
+      old : (j i : ℕ) → i < countOf (st .counts) j → lookupIn (rowsBehind r st e rows′) (cellsBehind r st cells) j i ≡ lookupIn rows cells j i
       old = row-old r st cells rows e rows′ m reading wide
 
       six : κ < 6
       six = in-order (st .key) κ (m .order) .0
 
-      last : κ ≡ key-fn → lookIn (putOf r st e rows′) (storedOf r st cells) key-fn 0 ≡ r
+      last : κ ≡ key-fn → lookupIn (rowsBehind r st e rows′) (cellsBehind r st cells) key-fn 0 ≡ r
       last q =
-          ap (rowAt (putOf r st e rows′) (storedOf r st cells)) {x = baseOf key-fn + 0} {y = placeOf r st}
+          ap (rowAt (rowsBehind r st e rows′) (cellsBehind r st cells)) {x = baseOf key-fn + 0} {y = placeOf r st}
           (omega (arith, ap baseOf q, ap (countOf (st .counts)) q, fn-none (st .counts)))
           ∙ row-new r st cells rows e rows′ m reading wide
 
       by : (b : Bool) → eqb κ key-fn ≡ b
-          → keysFrom (counted (st .counts) κ (length (r .cells))) (lookIn (putOf r st e rows′) (storedOf r st cells)) 0 5
-          ++ cond b (lookIn (putOf r st e rows′) (storedOf r st cells) key-fn 0 ∷ []) []
-          ≡ (keysFrom (st .counts) (lookIn rows cells) 0 5 ++ cond (eqb (st .key) key-fn) (lookIn rows cells key-fn 0 ∷ []) []) ++ (r ∷ [])
+          → keysFrom (counted (st .counts) κ (length (r .cells))) (lookupIn (rowsBehind r st e rows′) (cellsBehind r st cells)) 0 5
+          ++ cond b (lookupIn (rowsBehind r st e rows′) (cellsBehind r st cells) key-fn 0 ∷ []) []
+          ≡ (keysFrom (st .counts) (lookupIn rows cells) 0 5 ++ cond (eqb (st .key) key-fn) (lookupIn rows cells key-fn 0 ∷ []) []) ++ (r ∷ [])
       by true p =
           let q : κ ≡ key-fn = eqb-true κ key-fn p in
           rw (
-            keys-same (st .counts) (counted (st .counts) κ (length (r .cells))) (lookIn rows cells) (lookIn (putOf r st e rows′) (storedOf r st cells)) κ r other old 0 5 (omega arith)
+            keys-same (st .counts) (counted (st .counts) κ (length (r .cells))) (lookupIn rows cells) (lookupIn (rowsBehind r st e rows′) (cellsBehind r st cells)) κ r other old 0 5 (omega arith)
                 (λ j u v w. omega (arith, w, q)),
             last q,
             before,
@@ -180,8 +156,8 @@ module _ (r : Row) (st : State) (cells rows : List ℕ) (e : ℕ) (rows′ : Lis
       by false p =
           let q : κ ≡ key-fn → ⊥ = eqb-false κ key-fn p in
           rw before
-          (append-nil (keysFrom (counted (st .counts) κ (length (r .cells))) (lookIn (putOf r st e rows′) (storedOf r st cells)) 0 5)
-          ∙ keys-snoc (st .counts) (counted (st .counts) κ (length (r .cells))) (lookIn rows cells) (lookIn (putOf r st e rows′) (storedOf r st cells)) κ r other old none-later
+          (append-nil (keysFrom (counted (st .counts) κ (length (r .cells))) (lookupIn (rowsBehind r st e rows′) (cellsBehind r st cells)) 0 5)
+          ∙ keys-snoc (st .counts) (counted (st .counts) κ (length (r .cells))) (lookupIn rows cells) (lookupIn (rowsBehind r st e rows′) (cellsBehind r st cells)) κ r other old none-later
           (counted-own (st .counts) κ (length (r .cells)) (omega (arith, q, six))) (row-new r st cells rows e rows′ m reading wide) 0 5 (omega arith) (omega arith) (omega (arith, q, six)))
 
 -- ── a file ──
@@ -211,7 +187,7 @@ pub record Behind (r : Row) (st : State) (cells rows : List ℕ) (b : ℕ) (st�
   pub wide : (st .counts .fields + length (r .cells)) * 3 ≤ length cells
 
 -- what is known behind a step of a row that has a text
-pub step-behind : (r : Row) (b : ℕ) (st : State) (cells rows : List ℕ) (st′ : State) (cells′ rows′ : List ℕ) → WritesRow r → Reading st cells rows → Enough b (st .counts .fields)
+pub step-behind : (r : Row) (b : ℕ) (st : State) (cells rows : List ℕ) (st′ : State) (cells′ rows′ : List ℕ) → WritableRow r → Reading st cells rows → Enough b (st .counts .fields)
     → b + length (lineText r) + 1 ≤ most-bytes → stepRow r st cells rows ≡ next st′ cells′ rows′
     → Behind r st cells rows (b + length (lineText r) + 1) st′ cells′ rows′
 unfolding advance counted
@@ -221,61 +197,83 @@ step-behind r b st cells rows st′ cells′ rows′ w reading enough most h =
     rw (step-read r w st cells rows ∙ h) at (step-good (lineText r) b st cells rows reading enough most) in
     record { was = was; reading = good .0; enough = good .1; wide = by was (good .1) }
   where
-    fields : (e : ℕ) → stateOf r st e .counts .fields ≡ st .counts .fields + length (r .cells)
+    fields : (e : ℕ) → stateBehind r st e .counts .fields ≡ st .counts .fields + length (r .cells)
     fields e = refl
 
     by : WasMade r st cells rows st′ cells′ rows′ → Enough (b + length (lineText r) + 1) (st′ .counts .fields) → (st .counts .fields + length (r .cells)) * 3 ≤ length cells
     by was e = omega (arith, ap (λ (s : State). s .counts .fields) (was .state), fields (was .levels), e, reading .cells-long)
 
 -- the rows of the tables are those that were read
-pub rows-tables : (rs : List Row) (l b : ℕ) (st : State) (cells rows : List ℕ) (n : Counts) (cells′ rows′ : List ℕ) → WritesRows rs → Reading st cells rows → Enough b (st .counts .fields)
+pub rows-tables : (rs : List Row) (l b : ℕ) (st : State) (cells rows : List ℕ) (n : Counts) (cells′ rows′ : List ℕ) → WritableRows rs → Reading st cells rows → Enough b (st .counts .fields)
     → b + length (fileText rs) ≤ most-bytes → rowsFrom rs l st cells rows ≡ read n cells′ rows′
-    → bodyRows n (lookIn rows′ cells′) ≡ sofar st rows cells ++ rs
-unfolding rowsFrom WritesRows fileText bodyRows sofar
+    → bodyRows n (lookupIn rows′ cells′) ≡ rowsRead st rows cells ++ rs
+unfolding parsedFrom WritableRows fileText bodyRows rowsRead
 rows-tables [] l b st cells rows n cells′ rows′ w reading enough most e =
     let q = finish-only st l cells rows n cells′ rows′ e in
     rw (← (q .1), ← (q .2), ← (q .3)) (whole (q .0))
   where
-    whole : st .key ≡ key-fn → bodyRows (st .counts) (lookIn rows cells) ≡ sofar st rows cells ++ []
-    whole q = rw q (sym (append-nil (keysFrom (st .counts) (lookIn rows cells) 0 5 ++ (lookIn rows cells key-fn 0 ∷ []))))
+    whole : st .key ≡ key-fn → bodyRows (st .counts) (lookupIn rows cells) ≡ rowsRead st rows cells ++ []
+    whole q = rw q (sym (append-nil (keysFrom (st .counts) (lookupIn rows cells) 0 5 ++ (lookupIn rows cells key-fn 0 ∷ []))))
 rows-tables (r ∷ rs) l b st cells rows n cells′ rows′ w reading enough most e = by (stepRow r st cells rows) refl e (rows-tables rs (l + 1))
   where
     size : b + length (lineText r) + 1 + length (fileText rs) ≤ most-bytes
     size = omega (arith, most, length-append (lineText r) (10 ∷ fileText rs))
 
     by : (x : Stepped) → stepRow r st cells rows ≡ x → proceed x l (rowsFrom rs (l + 1)) ≡ read n cells′ rows′
-        → ((b : ℕ) (st : State) (cells rows : List ℕ) (n : Counts) (cells′ rows′ : List ℕ) → WritesRows rs → Reading st cells rows → Enough b (st .counts .fields)
-        → b + length (fileText rs) ≤ most-bytes → rowsFrom rs (l + 1) st cells rows ≡ read n cells′ rows′ → bodyRows n (lookIn rows′ cells′) ≡ sofar st rows cells ++ rs)
-        → bodyRows n (lookIn rows′ cells′) ≡ sofar st rows cells ++ r ∷ rs
+        → ((b : ℕ) (st : State) (cells rows : List ℕ) (n : Counts) (cells′ rows′ : List ℕ) → WritableRows rs → Reading st cells rows → Enough b (st .counts .fields)
+        → b + length (fileText rs) ≤ most-bytes → rowsFrom rs (l + 1) st cells rows ≡ read n cells′ rows′ → bodyRows n (lookupIn rows′ cells′) ≡ rowsRead st rows cells ++ rs)
+        → bodyRows n (lookupIn rows′ cells′) ≡ rowsRead st rows cells ++ r ∷ rs
     by (bad x) p e ih = let z : _≡_ {A = ℕ} 0 1 = cc in absurd (omega arith)
     by (next st″ cells″ rows″) p e ih =
         let g : Behind r st cells rows (b + length (lineText r) + 1) st″ cells″ rows″ = step-behind r b st cells rows st″ cells″ rows″ (w .0) reading enough (omega (arith, size)) p in
         ih (b + length (lineText r) + 1) st″ cells″ rows″ n cells′ rows′ (w .1) (g .reading) (g .enough) size e
         ∙ ap (λ (t : List Row). t ++ rs) (more g)
-        ∙ append-assoc (sofar st rows cells) (r ∷ []) rs
+        ∙ append-assoc (rowsRead st rows cells) (r ∷ []) rs
       where
-        more : Behind r st cells rows (b + length (lineText r) + 1) st″ cells″ rows″ → sofar st″ rows″ cells″ ≡ sofar st rows cells ++ (r ∷ [])
-        more g = rw (← (g .was .state), ← (g .was .stored), ← (g .was .put)) (sofar-more r st cells rows (g .was .levels) (g .was .links) (g .was .made) reading (g .wide))
+        more : Behind r st cells rows (b + length (lineText r) + 1) st″ cells″ rows″ → rowsRead st″ rows″ cells″ ≡ rowsRead st rows cells ++ (r ∷ [])
+        more g = rw (← (g .was .state), ← (g .was .stored), ← (g .was .put)) (rows-read-more r st cells rows (g .was .levels) (g .was .links) (g .was .made) reading (g .wide))
 
 -- nothing is read at the start
-start-none : (rows cells : List ℕ) → sofar first rows cells ≡ []
-unfolding sofar keysFrom listed countOf
+start-none : (rows cells : List ℕ) → rowsRead first rows cells ≡ []
+unfolding rowsRead keysFrom listed countOf
 start-none rows cells = refl
 
 -- a file that is read, by the rows of its tables
 pub rows-of-read : (s rows cells : List ℕ) (n : Counts) → bodyOf s rows cells .answer ≡ answer.Body n
-    → FileIs s (bodyRows n (lookIn (bodyOf s rows cells .rows) (bodyOf s rows cells .cells))) n cells rows (bodyOf s rows cells)
+    → FileIs s (bodyRows n (lookupIn (bodyOf s rows cells .rows) (bodyOf s rows cells .cells))) n cells rows (bodyOf s rows cells)
 rows-of-read s rows cells n e =
     let f = file-only s rows cells n e in
     let g : FileIs s (f .0) n cells rows (bodyOf s rows cells) = f .1 in
-    let q : bodyRows n (lookIn (bodyOf s rows cells .rows) (bodyOf s rows cells .cells)) ≡ f .0 =
-    rows-tables (f .0) 1 0 first (zeros cells) (zeros rows) n (bodyOf s rows cells .cells) (bodyOf s rows cells .rows) (g .writes)
+    let q : bodyRows n (lookupIn (bodyOf s rows cells .rows) (bodyOf s rows cells .cells)) ≡ f .0 =
+    rows-tables (f .0) 1 0 first (zeros cells) (zeros rows) n (bodyOf s rows cells .cells) (bodyOf s rows cells .rows) (g .writable)
     (start-reading rows cells (g .rows-long) (g .cells-long)) (omega arith) (omega (arith, g .short, ap length (g .file))) (g .ends)
     ∙ ap (λ (t : List Row). t ++ f .0) (start-none (zeros rows) (zeros cells)) in
     subst (λ (rs : List Row). FileIs s rs n cells rows (bodyOf s rows cells)) (sym q) g
 
 -- WRITE AFTER READ: the text of the tables of a file that is read is the file
 pub text-of-read : (s rows cells : List ℕ) (n : Counts) → bodyOf s rows cells .answer ≡ answer.Body n
-    → textOf n (bodyOf s rows cells .rows) (bodyOf s rows cells .cells) ≡ s
-unfolding textOf
+    → fileTextIn n (bodyOf s rows cells .rows) (bodyOf s rows cells .cells) ≡ s
+unfolding fileTextIn
 text-of-read s rows cells n e = rows-of-read s rows cells n e .file
+
+-- what stands in the lent tables does not count: a file that is read is read alike over others of the same lengths
+pub lent-same : (s rows cells : List ℕ) (n : Counts) → bodyOf s rows cells .answer ≡ answer.Body n
+    → (rows′ cells′ : List ℕ) → length rows′ ≡ length rows → length cells′ ≡ length cells → bodyOf s rows′ cells′ ≡ bodyOf s rows cells
+unfolding bodyOf
+lent-same s rows cells n e rows′ cells′ p q = rw (p, q) (by (ltb most-bytes (length s)) (ltb (length rows) rows-length) (ltb (length cells) cells-length) e)
+  where
+    whole : Ended
+    whole = linesFrom (partsFrom 10 0 s) 1 first (zeros cells) (zeros rows)
+
+    file : (a b c : Bool) → List ℕ → List ℕ → Held
+    file a b c r f = cond a (held answer.TooLong r f) (cond b (held answer.ShortTable r f) (cond c (held answer.ShortTable r f) (settle whole r f)))
+
+    end : (x : Ended) → settle x rows cells .answer ≡ answer.Body n → settle x rows′ cells′ ≡ settle x rows cells
+    end (refused x l) e = let z : _≡_ {A = ℕ} 0 1 = cc in absurd (omega arith)
+    end (read m cells″ rows″) e = refl
+
+    by : (a b c : Bool) → file a b c rows cells .answer ≡ answer.Body n → file a b c rows′ cells′ ≡ file a b c rows cells
+    by true b c e = let z : _≡_ {A = ℕ} 0 1 = cc in absurd (omega arith)
+    by false true c e = let z : _≡_ {A = ℕ} 0 1 = cc in absurd (omega arith)
+    by false false true e = let z : _≡_ {A = ℕ} 0 1 = cc in absurd (omega arith)
+    by false false false e = end whole e

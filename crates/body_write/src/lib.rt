@@ -3,12 +3,10 @@ ghost use mathlib.Core.Path.{_≡_};
 ghost use mathlib.Core.List.{_++_, _∷_, []};
 ghost use Prim.Native.Nat.{_+_, _≤_, _<_};
 ghost use Rattle.forms.specs.Form.{cell as cell·T};
-ghost use Rattle.output.specs.Output.{Appends, numberText, newline, output as output·T, ended};
-ghost use Rattle.body_rows.specs.Fields.{binaryLetter, unaryLetter, resText, fieldText};
-ghost use Rattle.body_rows.specs.Lines.{row, lineText};
-ghost use Rattle.body_rows.specs.Steps.{cellsAt};
-ghost use Rattle.body_rows.specs.Tables.{textOf};
-ghost use Rattle.body_rows.specs.Writing.{optionText, isWorded, headText, turns, fieldIn, behindComma, valuesText, rowLine, rowLines, declarationLines};
+ghost use Rattle.refs.specs.Refs.{fn-at};
+ghost use Rattle.output.specs.Output.{Appends, numberText, newline, textsTo, output as output·T, ended};
+ghost use Rattle.body_rows.specs.Text.{binaryLetter, unaryLetter, resolutionText, fieldText, row, lineText, cellsAt, fileTextIn};
+ghost use Rattle.body_write.specs.Writing.{optionalText, isWorded, headText, fieldTextAt, behindComma, valuesText, rowLine, rowLines, declarationLines};
 use forms::Form;
 use output::Ending;
 use refs::Counts;
@@ -46,7 +44,7 @@ fn unary_letter(v: u16) -> u8
 
 // A number, or `-`.
 fn put_option(out: &mut [u8], c: usize, tag: u16, v: u16) -> usize
-    ensures { λ r. ⌜ Appends (optionText tag v) c (now (out .entry)) r (now (out .exit)) ⌝ }
+    ensures { λ r. ⌜ Appends (optionalText tag v) c (now (out .entry)) r (now (out .exit)) ⌝ }
 {
     if tag == 0 {
         return output::put(out, c, b'-');
@@ -56,7 +54,7 @@ fn put_option(out: &mut [u8], c: usize, tag: u16, v: u16) -> usize
 
 // RES.
 fn put_res(out: &mut [u8], c: usize, tag: u16, v: u16) -> usize
-    ensures { λ r. ⌜ Appends (resText tag v) c (now (out .entry)) r (now (out .exit)) ⌝ }
+    ensures { λ r. ⌜ Appends (resolutionText tag v) c (now (out .entry)) r (now (out .exit)) ⌝ }
 {
     match tag {
         0 => output::put_field(out, c, b"o", v as usize),
@@ -87,7 +85,7 @@ fn put_pair(out: &mut [u8], c: usize, a: u16, v: u16) -> usize
 
 // NAME:RES.
 fn put_segment(out: &mut [u8], c: usize, a: u16, tag: u16, v: u16) -> usize
-    ensures { λ r. ⌜ Appends (numberText a ++ 58 ∷ resText tag v) c (now (out .entry)) r (now (out .exit)) ⌝ }
+    ensures { λ r. ⌜ Appends (numberText a ++ 58 ∷ resolutionText tag v) c (now (out .entry)) r (now (out .exit)) ⌝ }
 {
     let d = put_name(out, c, a);
     put_res(out, d, tag, v)
@@ -111,7 +109,7 @@ fn put_way(out: &mut [u8], c: usize, w: u8, a: u16, tag: u16, v: u16) -> usize
 
 // The field a + i of a row of the form f whose fields stand from j on.
 fn put_cell(out: &mut [u8], c: usize, f: Form, cells: &[u16], j: u16, a: u16, i: u16) -> usize
-    ensures { λ r. ⌜ Appends (fieldIn f (now (cells .entry)) j (a + i)) c (now (out .entry)) r (now (out .exit)) ⌝ }
+    ensures { λ r. ⌜ Appends (fieldTextAt f (now (cells .entry)) j (a + i)) c (now (out .entry)) r (now (out .exit)) ⌝ }
 {
     let h = a as u32 + i as u32;
     let k = j as u32 + h;
@@ -132,7 +130,7 @@ fn put_next(out: &mut [u8], c: usize, f: Form, cells: &[u16], j: u16, a: u16, i:
 
 // n fields of it from the field a on, each behind a comma.
 fn put_more(out: &mut [u8], c: usize, f: Form, cells: &[u16], j: u16, a: u16, n: u16) -> usize
-    ensures { λ r. ⌜ Appends (turns (behindComma f (now (cells .entry)) j a) n) c (now (out .entry)) r (now (out .exit)) ⌝ }
+    ensures { λ r. ⌜ Appends (textsTo (behindComma f (now (cells .entry)) j a) n) c (now (out .entry)) r (now (out .exit)) ⌝ }
 {
     let mut d = c;
     let mut i: u16 = 0;
@@ -270,7 +268,7 @@ fn put_values(out: &mut [u8], c: usize, f: u16, cells: &[u16], j: u16, m: u16) -
 }
 
 // The line of a row: of the form f, with m fields from j on.
-pub fn put_row(out: &mut [u8], c: usize, f: u16, cells: &[u16], j: u16, m: u16) -> usize
+fn put_row(out: &mut [u8], c: usize, f: u16, cells: &[u16], j: u16, m: u16) -> usize
     ensures { λ r. ⌜ Appends (lineText (row f (cellsAt (now (cells .entry)) j m)) ++ newline) c (now (out .entry)) r (now (out .exit)) ⌝ }
 {
     let a = put_head(out, c, f);
@@ -279,7 +277,7 @@ pub fn put_row(out: &mut [u8], c: usize, f: u16, cells: &[u16], j: u16, m: u16) 
 }
 
 // The line of the row at the place p of the tables.
-pub fn put_at(out: &mut [u8], c: usize, rows: &[u16], cells: &[u16], p: u32) -> usize
+fn put_at(out: &mut [u8], c: usize, rows: &[u16], cells: &[u16], p: u32) -> usize
     ensures { λ r. ⌜ Appends (rowLine (now (rows .entry)) (now (cells .entry)) p) c (now (out .entry)) r (now (out .exit)) ⌝ }
 {
     let f = refs::form_of(rows, p);
@@ -291,13 +289,14 @@ pub fn put_at(out: &mut [u8], c: usize, rows: &[u16], cells: &[u16], p: u32) -> 
 // ── a body ──
 
 // The lines of n rows from the place p on.
-fn put_rows(out: &mut [u8], c: usize, rows: &[u16], cells: &[u16], p: u16, n: u16) -> usize
+fn put_rows(out: &mut [u8], c: usize, rows: &[u16], cells: &[u16], p: u32, n: u16) -> usize
+    requires { ⌜ p ≤ fn-at ⌝ }
     ensures { λ r. ⌜ Appends (rowLines (now (rows .entry)) (now (cells .entry)) p n) c (now (out .entry)) r (now (out .exit)) ⌝ }
 {
     let mut d = c;
     let mut i: u16 = 0;
     while i < n {
-        d = put_at(out, d, rows, cells, p as u32 + i as u32);
+        d = put_at(out, d, rows, cells, p + i as u32);
         i += 1;
     }
     d
@@ -311,19 +310,19 @@ fn put_declarations(out: &mut [u8], rows: &[u16], cells: &[u16], n: Counts) -> u
     let d = n.defs;
     let k = n.insts;
     let b = n.binds;
-    let c0 = put_rows(out, 0, rows, cells, 0, t);
-    let c1 = put_rows(out, c0, rows, cells, 512, d);
-    let c2 = put_rows(out, c1, rows, cells, 768, k);
-    put_rows(out, c2, rows, cells, 832, b)
+    let c0 = put_rows(out, 0, rows, cells, refs::TYPES_AT, t);
+    let c1 = put_rows(out, c0, rows, cells, refs::DEFS_AT, d);
+    let c2 = put_rows(out, c1, rows, cells, refs::INSTS_AT, k);
+    put_rows(out, c2, rows, cells, refs::BINDS_AT, b)
 }
 
 // The text of a body's tables into an output of any length: where it ends; without room for it the output is zero throughout.
 pub fn write_body(out: &mut [u8], rows: &[u16], cells: &[u16], n: Counts) -> Ending
-    ensures { λ r. ⌜ output·T r (now (out .exit)) ≡ ended (textOf n (now (rows .entry)) (now (cells .entry))) (now (out .entry)) ⌝ }
+    ensures { λ r. ⌜ output·T r (now (out .exit)) ≡ ended (fileTextIn n (now (rows .entry)) (now (cells .entry))) (now (out .entry)) ⌝ }
 {
     let c = put_declarations(out, rows, cells, n);
     let m = n.nodes;
-    let d = put_rows(out, c, rows, cells, 896, m);
-    let e = put_at(out, d, rows, cells, 1920);
+    let d = put_rows(out, c, rows, cells, refs::NODES_AT, m);
+    let e = put_at(out, d, rows, cells, refs::FN_AT);
     output::finish(out, e)
 }

@@ -13,8 +13,7 @@ use Rattle.record.specs.declared.TypingError.{TypingError}
 use Rattle.record.specs.Own.{kindNumber}
 use Rattle.errors.specs.declared.ErrorRow.{ErrorRow}
 use Rattle.errors.specs.Rows.{errorOf}
-use Rattle.tables.specs.Rows.{cellsTo}
-use Rattle.output.specs.Output.{numberText, newline}
+use Rattle.output.specs.Output.{textsTo, numberText, newline}
 
 -- numbers, each after a comma
 unfoldable pub eachText : List ℕ → List ℕ
@@ -67,7 +66,7 @@ errorLine r = errorText (errorOf r)
 
 -- n errors, by their rows
 unfoldable pub errorLines : (ℕ → ErrorRow) → ℕ → List ℕ
-errorLines f n = text "errors=" ++ numberText n ++ newline ++ cellsTo (λ i. errorLine (f i)) n
+errorLines f n = text "errors=" ++ numberText n ++ newline ++ textsTo (λ i. errorLine (f i)) n
 
 -- ── what the code writes ──
 

@@ -1,2 +1,1 @@
 pub mod ErrorLines
-pub mod Turns

@@ -58,7 +58,7 @@ haveNumbers [] = true
 haveNumbers (f ∷ fs) = cond (hasNumber (f .word)) (haveNumbers fs) false
 
 -- two tests, where both hold
-both : (b c : Bool) → cond b c false ≡ true → (b ≡ true) × (c ≡ true)
+pub both : (b c : Bool) → cond b c false ≡ true → (b ≡ true) × (c ≡ true)
 both true c h = (refl, h)
 both false c h = absurd (false≢true h)
 

@@ -1,2 +1,3 @@
 pub mod Output
 pub mod Appending
+pub mod Turns

@@ -24,6 +24,11 @@ numberText n = digitsOf 20 n
 abbrev pub newline : List ℕ
 newline = 10 ∷ []
 
+-- n texts one behind the other, that of the number i being f i
+unfoldable pub textsTo : (ℕ → List ℕ) → ℕ → List ℕ
+textsTo f zero = []
+textsTo f (suc n) = textsTo f n ++ f n
+
 -- ── an output ──
 
 -- a zero for each byte

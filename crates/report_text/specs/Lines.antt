@@ -11,10 +11,9 @@ use Rattle.record.specs.declared.Extra.{Extra}
 use Rattle.record.specs.declared.Extra.the-variants as extra
 use Rattle.record.specs.Own.{flagged, extraOf}
 use Rattle.errors.specs.declared.ErrorRow.{ErrorRow}
-use Rattle.tables.specs.Rows.{cellsTo}
 use Rattle.tables.specs.Types.{inputs-from}
 use Rattle.tables.specs.Read.{cellsAt, madeAt}
-use Rattle.output.specs.Output.{numberText, newline}
+use Rattle.output.specs.Output.{textsTo, numberText, newline}
 use Rattle.error_lines.specs.ErrorLines.{eachText, errorLines}
 
 -- ── parts of a line ──
@@ -60,7 +59,7 @@ typeLine t i = text "type=" ++ typeText (madeAt t i) ++ newline
 
 -- n made types
 unfoldable pub typeLines : List ℕ → ℕ → List ℕ
-typeLines t n = text "types=" ++ numberText n ++ newline ++ cellsTo (typeLine t) n
+typeLines t n = text "types=" ++ numberText n ++ newline ++ textsTo (typeLine t) n
 
 -- ── variables: `vars=`, `var=KIND,BOUND,ORIGIN` ──
 
@@ -80,7 +79,7 @@ varLine t v =
 
 -- n variables
 unfoldable pub varLines : List ℕ → ℕ → List ℕ
-varLines t n = text "vars=" ++ numberText n ++ newline ++ cellsTo (varLine t) n
+varLines t n = text "vars=" ++ numberText n ++ newline ++ textsTo (varLine t) n
 
 -- ── nodes: one `node=RAW,FINAL,EXTRA` per node ──
 
@@ -110,7 +109,7 @@ nodeLine t i =
 
 -- n nodes
 abbrev pub nodeLines : List ℕ → ℕ → List ℕ
-nodeLines t n = cellsTo (nodeLine t) n
+nodeLines t n = textsTo (nodeLine t) n
 
 -- ── a body that was checked ──
 

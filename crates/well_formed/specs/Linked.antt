@@ -13,6 +13,7 @@ use lib.Seq.{getD-set-same, getD-set-other}
 use borrow.Author.Tests.{eqb-true, eqb-false, ltb-true, ltb-false, not-true, ne-eqb}
 use Rattle.forms.specs.declared.Form.{Form}
 use Rattle.forms.specs.Form.{kindAt, LowType, TypeRef, OptType, NamedType, NamedDef, OptExpr, Expr, Block, Stmt, Param, TypedParam, Body, Resolution, Segment}
+use Rattle.forms.specs.Words.{both}
 use Rattle.refs.specs.declared.Counts.{Counts}
 use Rattle.refs.specs.Refs.{nodes-at, fixed-types, diverges, formIn, firstIn, levelsIn, userIn, tagIn, valueIn, a-type, a-def, a-node, a-res, no-row, among, refersTo, isChild, isType, isExpr, stands, isFree, isLocal, isRes, right, levelsOf, larger, taken, refsFrom, Linked, unlinked, linked}
 use Rattle.well_formed.specs.Good.{writtenAs, ChildGood, FieldGood}
@@ -30,13 +31,8 @@ pub record LinkedGood (m : ℕ) (n : Counts) (f : Form) (i j : ℕ) (cells : Lis
   pub attained : (e ≡ d) ⊎ ((a : ℕ) × (a < m) × (e ≡ levelsOf (kindAt f (i + a)) (tagIn cells (j + a)) (valueIn cells (j + a)) rows))
 
 -- rows′ keeps the first four columns of each row
-abbrev Columns : List ℕ → List ℕ → Type 0
+abbrev pub Columns : List ℕ → List ℕ → Type 0
 Columns rows rows′ = (r c : ℕ) → c < 4 → getD rows′ (r * 5 + c) 0 ≡ getD rows (r * 5 + c) 0
-
--- a test of two parts that passed
-both : (c d : Bool) → cond c d false ≡ true → (c ≡ true) × (d ≡ true)
-both true d h = (refl, h)
-both false d h = let z : _≡_ {A = ℕ} 0 1 = cc in absurd (omega arith)
 
 -- rows that keep their first four columns keep their forms
 form-same : (rows rows′ : List ℕ) (r : ℕ) → Columns rows rows′ → formIn rows′ r ≡ formIn rows r
@@ -54,7 +50,7 @@ unfolding levelsOf levelsIn
 levels-same k tag x rows rows′ h = rw (h (nodes-at + x) 3 (omega arith), h (x - fixed-types) 3 (omega arith))
 
 -- to take a child keeps the length of the rows
-taken-length : (k tag x j : ℕ) (rows : List ℕ) → length (taken k tag x j rows) ≡ length rows
+pub taken-length : (k tag x j : ℕ) (rows : List ℕ) → length (taken k tag x j rows) ≡ length rows
 unfolding taken
 taken-length k tag x j rows = by (isChild k tag)
   where
@@ -63,7 +59,7 @@ taken-length k tag x j rows = by (isChild k tag)
     by false = refl
 
 -- and the first four columns
-taken-columns : (k tag x j : ℕ) (rows : List ℕ) → Columns rows (taken k tag x j rows)
+pub taken-columns : (k tag x j : ℕ) (rows : List ℕ) → Columns rows (taken k tag x j rows)
 unfolding taken
 taken-columns k tag x j rows r c l = by (isChild k tag)
   where
@@ -308,7 +304,7 @@ one-more m n f i j cells d rows e rows′ room w h rest =
     }
 
 -- a line that is linked passed its test
-step : (c : Bool) (l : Linked) (rows : List ℕ) (e : ℕ) (rows′ : List ℕ) → cond c l (unlinked rows) ≡ linked e rows′ → (c ≡ true) × (l ≡ linked e rows′)
+pub step : (c : Bool) (l : Linked) (rows : List ℕ) (e : ℕ) (rows′ : List ℕ) → cond c l (unlinked rows) ≡ linked e rows′ → (c ≡ true) × (l ≡ linked e rows′)
 step true l rows e rows′ h = (refl, h)
 step false l rows e rows′ h = let z : _≡_ {A = ℕ} 0 1 = cc in absurd (omega arith)
 

@@ -39,12 +39,12 @@ pub record ParsedGood (k : ℕ) (v : List ℕ) (f : ℕ) (l : List Cell) : Type 
   pub written : (i : ℕ) → i < length l → writtenAs (kindAt (formAt f) i / 16) (getD l i blank .tag) (getD l i blank .value) ≡ true
 
 -- what holds of each arm of a test, where the test chooses it, holds of the whole
-by-test : {A : Type 0} (P : A → Type 0) (b : Bool) (x y : A) → (b ≡ true → P x) → (b ≡ false → P y) → P (cond b x y)
+pub by-test : {A : Type 0} (P : A → Type 0) (b : Bool) (x y : A) → (b ≡ true → P x) → (b ≡ false → P y) → P (cond b x y)
 by-test P true x y p q = p refl
 by-test P false x y p q = q refl
 
 -- what holds of each arm of a test holds of the whole
-either : {A : Type 0} (P : A → Type 0) (b : Bool) (x y : A) → P x → P y → P (cond b x y)
+pub either : {A : Type 0} (P : A → Type 0) (b : Bool) (x y : A) → P x → P y → P (cond b x y)
 either P b x y p q = by-test P b x y (λ e. p) (λ e. q)
 
 -- a field has a tag and a value of the way c, where it was read
@@ -157,7 +157,7 @@ unfolding readAs letterOf optionalOf pairOf binaryOf unaryOf tagOf taggedOf numb
 empty-bad c = simp bad-arms
 
 -- a field that is read has a byte
-read-filled : (c : ℕ) (s : List ℕ) (x : Cell) → readAs c s ≡ Is x → 0 < length s
+pub read-filled : (c : ℕ) (s : List ℕ) (x : Cell) → readAs c s ≡ Is x → 0 < length s
 read-filled c [] x e = let z : _≡_ {A = ℕ} 0 1 = cc (empty-bad c) in omega arith
 read-filled c (b ∷ s) x e = omega arith
 

@@ -10,7 +10,7 @@ use mathlib.Core.Bool.{Bool, true, false, cond, true≢false, false≢true}
 use lib.Dec.{leb, ltb, eqb}
 use lib.ListN.{length, take, drop, length-drop}
 use lib.Seq.{length-take-le}
-use borrow.Author.Tests.{ltb-true, ltb-false, leb-true, eqb-true}
+use borrow.Author.Tests.{ltb-true, ltb-false, leb-true, eqb-true, eqb-false}
 use Rattle.forms.specs.declared.Cell.{Cell}
 use Rattle.forms.specs.declared.Fault.the-variants as fault
 use Rattle.forms.specs.Form.{key-type, key-node, key-fn, keyOf, formAt, kindAt, Parsed, wrong, parsed, parseLine, lay, storeFrom}
@@ -42,7 +42,7 @@ deeper-le a b h = by (ltb a 65) refl (ltb b 65) refl
     by false p false q = omega arith
 
 -- nor are the levels of a line over them
-levels-over-le : (f a b : ℕ) → a ≤ b → levelsOver f a ≤ levelsOver f b
+pub levels-over-le : (f a b : ℕ) → a ≤ b → levelsOver f a ≤ levelsOver f b
 unfolding levelsOver
 levels-over-le f a b h = by (eqb f 1) (ltb f 7) (ltb 28 f)
   where
@@ -357,16 +357,17 @@ abbrev pub GoodStep : ℕ → Stepped → Type 0
 GoodStep b (bad x) = faultNumber x < 6
 GoodStep b (next st cells rows) = Reading st cells rows × Enough b (st .counts .fields)
 
--- a key in order is a key, and no earlier one
-in-order : (was k : ℕ) → inOrder was k ≡ true → (k < 6) × (was ≤ k)
+-- a key in order is a key, no earlier one, and behind no `fn`
+pub in-order : (was k : ℕ) → inOrder was k ≡ true → (k < 6) × (was ≤ k) × (was ≡ key-fn → ⊥)
 unfolding inOrder
-in-order was k e = by (ltb k was) refl (eqb was key-fn) (leb k key-fn) refl e
+in-order was k e = by (ltb k was) refl (eqb was key-fn) refl (leb k key-fn) refl e
   where
-    by : (a : Bool) → ltb k was ≡ a → (b c : Bool) → leb k key-fn ≡ c → cond a false (cond b false c) ≡ true → (k < 6) × (was ≤ k)
-    by true o b c p e = absurd (false≢true e)
-    by false o true c p e = absurd (false≢true e)
-    by false o false true p e = (omega (arith, leb-true k key-fn p), ltb-false k was o)
-    by false o false false p e = absurd (false≢true e)
+    by : (a : Bool) → ltb k was ≡ a → (b : Bool) → eqb was key-fn ≡ b → (c : Bool) → leb k key-fn ≡ c → cond a false (cond b false c) ≡ true
+        → (k < 6) × (was ≤ k) × (was ≡ key-fn → ⊥)
+    by true o b u c p e = absurd (false≢true e)
+    by false o true u c p e = absurd (false≢true e)
+    by false o false u true p e = (omega (arith, leb-true k key-fn p), ltb-false k was o, eqb-false was key-fn u)
+    by false o false u false p e = absurd (false≢true e)
 
 -- the nodes are within the table
 nodes-inside : (st : State) (cells rows : List ℕ) → Reading st cells rows → (nodes-at + st .counts .nodes) * 5 ≤ length rows

@@ -36,11 +36,11 @@ sets-at l i (a ∷ vs) (suc c) h b =
     ap (λ (x : ℕ). getD (sets (set l i a) (suc i) vs) x 0) (omega arith) ∙ sets-at (set l i a) (suc i) vs c (omega arith) (simp length-set (omega arith))
 
 -- the three numbers of a cell
-abbrev numbers : Cell → List ℕ
+abbrev pub numbers : Cell → List ℕ
 numbers c = c .name ∷ c .tag ∷ c .value ∷ []
 
 -- a stored cell keeps the length of the table
-store-length : (t : List ℕ) (j : ℕ) (c : Cell) → length (store t j c) ≡ length t
+pub store-length : (t : List ℕ) (j : ℕ) (c : Cell) → length (store t j c) ≡ length t
 unfolding store
 store-length t j c = by (leb (j * 3 + 3) (length t))
   where
@@ -90,7 +90,7 @@ stored-behind t j [] x h = refl
 stored-behind t j (c ∷ cs) x h = stored-behind (store t j c) (j + 1) cs x (omega arith) ∙ store-behind t j c x (omega arith)
 
 -- each number of each cell is there
-stored-at : (t : List ℕ) (j : ℕ) (l : List Cell) (a c : ℕ) → a < length l → c < 3 → (j + length l) * 3 ≤ length t
+pub stored-at : (t : List ℕ) (j : ℕ) (l : List Cell) (a c : ℕ) → a < length l → c < 3 → (j + length l) * 3 ≤ length t
     → getD (storeFrom t j l) ((j + a) * 3 + c) 0 ≡ getD (numbers (getD l a blank)) c 0
 unfolding storeFrom
 stored-at t j [] a c h k b = absurd (omega arith)

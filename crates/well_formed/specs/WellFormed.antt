@@ -118,7 +118,7 @@ lines-good (s ∷ t ∷ ts) l b st cells rows r e h =
     (λ st′ cells′ rows′ r′ e′. lines-good (t ∷ ts) (l + 1) (b + length s + 1) st′ cells′ rows′ r′ e′ (omega arith))
 
 -- a file starts with no row of any key
-none-counted : (k : ℕ) → countOf no-rows k ≡ 0
+pub none-counted : (k : ℕ) → countOf no-rows k ≡ 0
 unfolding countOf
 none-counted k = by (eqb k key-type) (eqb k key-def) (eqb k key-inst) (eqb k key-bind) (eqb k key-node)
   where

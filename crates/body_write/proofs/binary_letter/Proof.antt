@@ -1,4 +1,4 @@
-use Rattle.body_rows.specs.Fields.{binaryLetter}
+use Rattle.body_rows.specs.Text.{binaryLetter}
 use borrow.Author.Tests.{eq-eqb, ne-eqb}
 use Rattle.body_write.proofs.binary_letter.Statement.{statement}
 use Rattle.body_write.proofs.binary_letter.Tie as tie

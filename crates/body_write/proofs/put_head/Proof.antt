@@ -1,5 +1,5 @@
 use Rattle.output.specs.Appending.{appends-as}
-use Rattle.body_write.proofs.PrintLaws.{head-other}
+use Rattle.body_write.proofs.WriteLaws.{head-other}
 use borrow.Author.Needs.{needs}
 use Rattle.body_write.proofs.put_head.Statement.{statement}
 use Rattle.body_write.proofs.put_head.Tie as tie
@@ -25,4 +25,4 @@ put-head-spec =
     (λ c. search needs)
     (λ c κs. search needs)
     (λ c. search needs)
-    (λ c. appends-as (head-other _ ((c .before .before .before .before .before .if5 .left))) ((c .before .before .put-all .ensures))))
+    (λ c. appends-as (head-other _ (c .before .before .before .before .before .if5 .left)) (c .before .before .put-all .ensures)))

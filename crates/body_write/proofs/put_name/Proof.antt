@@ -9,4 +9,4 @@ put-name-spec =
     (λ c κs. search needs)
     (λ c κs. search needs)
     (λ c. search needs)
-    (λ c. then ((c .before .before .before .before .before .before .put-number .ensures)) ((c .before .before .put .ensures))))
+    (λ c. then (c .before .before .before .before .before .before .put-number .ensures) (c .before .before .put .ensures)))

@@ -1,5 +1,5 @@
 use Rattle.output.specs.Appending.{then}
-use Rattle.body_rows.specs.Writing.{behindComma}
+use Rattle.body_write.specs.Writing.{behindComma}
 use borrow.Author.Needs.{needs}
 use Rattle.body_write.proofs.put_next.Statement.{statement}
 use Rattle.body_write.proofs.put_next.Tie as tie
@@ -11,4 +11,4 @@ put-next-spec =
     (λ c κs. search needs)
     (λ c κs. search needs)
     (λ c. search needs)
-    (λ c. then ((c .before .before .before .before .before .before .put .ensures)) ((c .before .before .put-cell .ensures))))
+    (λ c. then (c .before .before .before .before .before .before .put .ensures) (c .before .before .put-cell .ensures)))

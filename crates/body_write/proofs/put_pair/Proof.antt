@@ -1,5 +1,5 @@
 use Rattle.output.specs.Output.{numberText}
-use Rattle.body_write.proofs.PrintLaws.{pair-as}
+use Rattle.body_write.proofs.WriteLaws.{pair-as}
 use borrow.Author.Needs.{needs}
 use Rattle.body_write.proofs.put_pair.Statement.{statement}
 use Rattle.body_write.proofs.put_pair.Tie as tie
@@ -10,4 +10,4 @@ put-pair-spec =
     (λ c κs. search needs)
     (λ c κs. search needs)
     (λ c. search needs)
-    (λ c. pair-as (numberText ((c .before .before .before .before .before .before .before .before .before .args .a))) (numberText ((c .before .before .before .before .before .before .before .before .before .args .v))) ((c .before .before .before .before .before .before .put-name .ensures)) ((c .before .before .put-number .ensures))))
+    (λ c. pair-as (numberText (c .before .before .before .before .before .before .before .before .before .args .a)) (numberText (c .before .before .before .before .before .before .before .before .before .args .v)) (c .before .before .before .before .before .before .put-name .ensures) (c .before .before .put-number .ensures)))

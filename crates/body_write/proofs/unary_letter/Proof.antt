@@ -1,4 +1,4 @@
-use Rattle.body_rows.specs.Fields.{unaryLetter}
+use Rattle.body_rows.specs.Text.{unaryLetter}
 use borrow.Author.Tests.{eq-eqb, ne-eqb}
 use Rattle.body_write.proofs.unary_letter.Statement.{statement}
 use Rattle.body_write.proofs.unary_letter.Tie as tie

@@ -1,4 +1,4 @@
-use Rattle.body_rows.specs.Writing.{isWorded}
+use Rattle.body_write.specs.Writing.{isWorded}
 use borrow.Author.Tests.{lt-ltb, le-ltb}
 use Rattle.body_write.proofs.worded.Statement.{statement}
 use Rattle.body_write.proofs.worded.Tie as tie

@@ -1,8 +1,7 @@
-use Rattle.error_lines.specs.Turns.{rows-none, rows-next, rows-all}
+use Rattle.output.specs.Turns.{texts-none, texts-next, texts-all}
 use Rattle.report_text.specs.Lines.{varLine, varLines}
 use Rattle.output.specs.Appending.{then}
-use Rattle.tables.specs.Rows.{cellsTo}
-use Rattle.output.specs.Output.{Appends}
+use Rattle.output.specs.Output.{textsTo, Appends}
 use lib.ListN.{length}
 use Prim.Native.Nat.{_≤_, _-_}
 use mathlib.Core.Path.{_≡_, refl, _∙_}
@@ -11,7 +10,7 @@ use Rattle.report_text.proofs.put_vars.Statement.{statement}
 use Rattle.report_text.proofs.put_vars.Tie as tie
 
 abbrev Inv-loop : tie.InvT-loop
-Inv-loop out₀ c t n d₀ v₀ out d v = Appends (cellsTo (varLine t) v) d₀ out₀ d out × (v ≤ n) × (length out ≡ length out₀)
+Inv-loop out₀ c t n d₀ v₀ out d v = Appends (textsTo (varLine t) v) d₀ out₀ d out × (v ≤ n) × (length out ≡ length out₀)
 
 abbrev μ-loop : tie.MeasureT-loop
 μ-loop out₀ c t n d₀ v₀ out d v = n - v
@@ -24,10 +23,10 @@ put-vars-spec =
     μ-loop
     (λ c. search needs)
     (λ c κs. search needs)
-    (λ c. (rows-none _ _ _, search needs, refl))
+    (λ c. (texts-none _ _ _, search needs, refl))
     (λ c κs. search needs)
     (λ c. search needs)
     (λ c. search needs)
-    (λ c. (rows-next _ _ (c .before .before .before .before .before .loop .inv .0) (c .before .before .put-var .ensures), search needs, (c .before .before .put-var .kept .0) ∙ (c .before .before .before .before .before .loop .inv .2)))
+    (λ c. (texts-next _ _ (c .before .before .before .before .before .loop .inv .0) (c .before .before .put-var .ensures), search needs, (c .before .before .put-var .kept .0) ∙ (c .before .before .before .before .before .loop .inv .2)))
     (λ c. (c .before .loop .inv .2) ∙ (c .before .before .before .before .put-line .kept .0))
-    (λ c. then (c .before .before .before .before .put-line .ensures) (rows-all _ _ _ (c .before .loop .inv .1) (c .loop-test .left) (c .before .loop .inv .0))))
+    (λ c. then (c .before .before .before .before .put-line .ensures) (texts-all _ _ _ (c .before .loop .inv .1) (c .loop-test .left) (c .before .loop .inv .0))))

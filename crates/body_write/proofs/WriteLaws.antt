@@ -1,6 +1,5 @@
 -- What each return and turn of a function that writes a line shows, over plain variables. Assumes nothing.
 use native.Mathlib.Omega.{arith}
-use native.Mathlib.Numerals.{add-one}
 use mathlib.Core.Path.{_≡_, refl, sym, ap, subst, _∙_}
 use mathlib.Core.List.{List, [], _∷_, _++_, append-assoc}
 use mathlib.Core.Bool.{Bool, true, false}
@@ -12,21 +11,18 @@ use Rattle.lex.specs.Text.{text}
 use Rattle.forms.specs.declared.Form.{Form}
 use Rattle.forms.specs.Form.{cell, kindAt, formAt, forms, no-form}
 use Rattle.refs.specs.declared.Counts.{Counts}
-use Rattle.refs.specs.Refs.{nameIn, tagIn, valueIn, formIn, firstIn, countIn}
+use Rattle.refs.specs.Refs.{nodes-at, fn-at, nameIn, tagIn, valueIn, formIn, firstIn, countIn}
 use Rattle.output.specs.declared.Ending.{Ending}
-use Rattle.output.specs.Output.{Appends, Finishes, output, ended, newline}
+use Rattle.output.specs.Output.{textsTo, Appends, Finishes, output, ended, newline}
 use Rattle.output.specs.Appending.{append-none, then, appends-as, whole}
-use Rattle.body_rows.specs.Fields.{tagLetter, resText, fieldText}
-use Rattle.body_rows.specs.Lines.{row, keyAt, wordAt, keyText, lineText}
-use Rattle.body_rows.specs.Steps.{cellsAt, rowAt}
-use Rattle.body_rows.specs.Tables.{textOf}
-use Rattle.body_rows.specs.Writing.{turns, fieldIn, behindComma, barely, isWorded, headText, valuesText, rowLine, rowLines, declarationLines, bodyLines, line-parts, text-lines}
+use Rattle.body_rows.specs.Text.{tagLetter, resolutionText, fieldText, row, keyAt, wordAt, keyText, lineText, cellsAt, rowAt, fileTextIn}
+use Rattle.body_write.specs.Writing.{fieldTextAt, behindComma, bareFields, isWorded, headText, valuesText, rowLine, rowLines, declarationLines, bodyLines, line-parts, text-lines}
 
 -- ── fields ──
 
 -- what is no other tag is o
-pub res-other : (t v : ℕ) → ((((((Unit {0} × (t ≡ 0 → ⊥)) × (t ≡ 1 → ⊥)) × (t ≡ 2 → ⊥)) × (t ≡ 3 → ⊥)) × (t ≡ 4 → ⊥)) × (t ≡ 5 → ⊥)) → 111 ∷ [] ≡ resText t v
-unfolding resText tagLetter
+pub res-other : (t v : ℕ) → ((((((Unit {0} × (t ≡ 0 → ⊥)) × (t ≡ 1 → ⊥)) × (t ≡ 2 → ⊥)) × (t ≡ 3 → ⊥)) × (t ≡ 4 → ⊥)) × (t ≡ 5 → ⊥)) → 111 ∷ [] ≡ resolutionText t v
+unfolding resolutionText tagLetter
 res-other t v n =
     rw (ne-eqb t 1 (n .0 .0 .0 .0 .1), ne-eqb t 2 (n .0 .0 .0 .1), ne-eqb t 3 (n .0 .0 .1), ne-eqb t 4 (n .0 .1), ne-eqb t 5 (n .1), lt-leb t 4 (omega (arith, n .0 .0 .0 .0 .0 .1, n .0 .0 .0 .0 .1, n .0 .0 .0 .1, n .0 .0 .1, n .0 .1)))
 
@@ -42,25 +38,9 @@ pair-as u v p q = appends-as (append-assoc u (58 ∷ []) v) (then p q)
 
 -- a field, by what was read of it
 pub cell-as : {c d : ℕ} {x y : List ℕ} (f : Form) (cells : List ℕ) (j h k w a t v : ℕ) → k ≡ kindAt f h → w ≡ k / 16 → a ≡ nameIn cells (j + h) → t ≡ tagIn cells (j + h) → v ≡ valueIn cells (j + h)
-    → Appends (fieldText w (cell a t v)) c x d y → Appends (fieldIn f cells j h) c x d y
-unfolding fieldIn
+    → Appends (fieldText w (cell a t v)) c x d y → Appends (fieldTextAt f cells j h) c x d y
+unfolding fieldTextAt
 cell-as f cells j h k w a t v p q r s u g = rw (← p, ← q, ← r, ← s, ← u) g
-
--- ── turns ──
-
-pub turns-none : (g : ℕ → List ℕ) (c : ℕ) (x : List ℕ) → Appends (turns g 0) c x c x
-unfolding turns
-turns-none g c x = append-none c x
-
-pub turns-next : {c d e : ℕ} {x y z : List ℕ} (g : ℕ → List ℕ) (i : ℕ) → Appends (turns g i) c x d y → Appends (g i) d y e z → Appends (turns g (i + 1)) c x e z
-unfolding turns
-turns-next g i p q = appends-as (ap (turns g) (sym (add-one i))) (then p q)
-
-pub turns-all : {c d : ℕ} {x y : List ℕ} (g : ℕ → List ℕ) (n i : ℕ) → i ≤ n → n ≤ i → Appends (turns g i) c x d y → Appends (turns g n) c x d y
-turns-all g n i le ge p = appends-as (ap (turns g) (meet le ge)) p
-  where
-    meet : i ≤ n → n ≤ i → i ≡ n
-    meet a b = omega (arith, a, b)
 
 -- ── the head of a line ──
 
@@ -81,19 +61,19 @@ head-other f h = by (ltb f 30) refl
 
 module _ (f : ℕ) (cells : List ℕ) (j m : ℕ) (g : Form) (w : Bool) (p : g ≡ formAt f) (q : w ≡ isWorded f) where
   -- behind a word
-  pub values-worded : {c d : ℕ} {x y : List ℕ} → w ≡ true → Appends (turns (behindComma g cells j 0) m) c x d y → Appends (valuesText f cells j m) c x d y
+  pub values-worded : {c d : ℕ} {x y : List ℕ} → w ≡ true → Appends (textsTo (behindComma g cells j 0) m) c x d y → Appends (valuesText f cells j m) c x d y
   unfolding valuesText
   values-worded t a = rw (← q, t, ← p) a
 
   -- none
   pub values-none : {c : ℕ} {x : List ℕ} → w ≡ false → m ≡ 0 → Appends (valuesText f cells j m) c x c x
-  unfolding valuesText barely
+  unfolding valuesText bareFields
   values-none {c = c} {x = x} t e = rw (← q, t, e) (append-none c x)
 
   -- one, and others
-  pub values-bare : {c d : ℕ} {x y : List ℕ} {b : ℕ} {z : List ℕ} → w ≡ false → (m ≡ 0 → ⊥) → Appends (fieldIn g cells j 0) c x b z → Appends (turns (behindComma g cells j 1) (m - 1)) b z d y → Appends (valuesText f cells j m) c x d y
-  unfolding valuesText barely
-  values-bare {c = c} {d = d} {x = x} {y = y} t n a r = let e : m ≡ suc (m - 1) = omega (arith, n) in rw (← q, t, ← p) (subst (λ (k : ℕ). Appends (barely g cells j k) c x d y) (sym e) (then a r))
+  pub values-bare : {c d : ℕ} {x y : List ℕ} {b : ℕ} {z : List ℕ} → w ≡ false → (m ≡ 0 → ⊥) → Appends (fieldTextAt g cells j 0) c x b z → Appends (textsTo (behindComma g cells j 1) (m - 1)) b z d y → Appends (valuesText f cells j m) c x d y
+  unfolding valuesText bareFields
+  values-bare {c = c} {d = d} {x = x} {y = y} t n a r = let e : m ≡ suc (m - 1) = omega (arith, n) in rw (← q, t, ← p) (subst (λ (k : ℕ). Appends (bareFields g cells j k) c x d y) (sym e) (then a r))
 
 -- the line of a row
 pub row-as : {c d e : ℕ} {x y z : List ℕ} {b : ℕ} {u : List ℕ} (f : ℕ) (cells : List ℕ) (j m : ℕ) → Appends (headText f) c x d y → Appends (valuesText f cells j m) d y e z → Appends newline e z b u
@@ -107,8 +87,8 @@ unfolding rowLine rowAt
 at-as rows cells p f j m u v w a = rw (← u, ← v, ← w) a
 
 -- the whole text
-pub body-as : {c d e : ℕ} {x y z : List ℕ} {u : List ℕ} {r : Ending} (n : Counts) (rows cells : List ℕ) → Appends (declarationLines n rows cells) 0 x c y → Appends (rowLines rows cells 896 (n .nodes)) c y d z
-    → Appends (rowLine rows cells 1920) d z e u → {v : List ℕ} → Finishes e u r v → output r v ≡ ended (textOf n rows cells) x
+pub body-as : {c d e : ℕ} {x y z : List ℕ} {u : List ℕ} {r : Ending} (n : Counts) (rows cells : List ℕ) → Appends (declarationLines n rows cells) 0 x c y → Appends (rowLines rows cells nodes-at (n .nodes)) c y d z
+    → Appends (rowLine rows cells fn-at) d z e u → {v : List ℕ} → Finishes e u r v → output r v ≡ ended (fileTextIn n rows cells) x
 unfolding bodyLines
 body-as {x = x} n rows cells p q r f = whole (then (then p q) r) f ∙ ap (λ (t : List ℕ). ended t x) (text-lines n rows cells)
 

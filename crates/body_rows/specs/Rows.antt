@@ -1,4 +1,4 @@
--- When the rows of a body are a file that is accepted: `GoodBody`, which speaks of rows by key and number alone. Definitions alone.
+-- When the rows of a body are a file that is accepted: `WellFormedRows`, which speaks of rows by key and number alone. Definitions alone.
 use Prim.Native.Nat.{ℕ, _+_, _-_, _<_, _≤_}
 use mathlib.Core.Path.{_≡_}
 use mathlib.Core.Logic.{_⊎_}
@@ -13,9 +13,7 @@ use Rattle.refs.specs.Refs.{fixed-types, diverges, form-block, form-param, form
 use Rattle.body.specs.Body.{countOf, limitOf, baseOf, levelsOver}
 use Rattle.well_formed.specs.Good.{behind}
 use Rattle.well_formed.specs.Parsed.{blank}
-use Rattle.body_rows.specs.Lines.{Row, keyAt, WritesRow}
-use Rattle.body_rows.specs.Steps.{rowAt}
-use Rattle.body_rows.specs.Tables.{Look}
+use Rattle.body_rows.specs.Text.{Row, keyAt, Lookup, rowAt, WritableRow}
 
 -- the cell of a row's field a
 abbrev pub cellOf : Row → ℕ → Cell
@@ -42,7 +40,7 @@ standsRow n k x r =
     (cond (eqb k Stmt) (not (eqb (r .form) form-param)) (cond (eqb k Body) (isLast n x (r .form)) (isExpr (r .form))))))
 
 -- a field of the kind k with the cell c, behind n: what its number refers to is there
-pub record FieldOk (n : Counts) (look : Look) (k : ℕ) (c : Cell) : Type 0 where
+pub record WellFormedField (n : Counts) (look : Lookup) (k : ℕ) (c : Cell) : Type 0 where
   pub type : refersTo k ≡ a-type → (c .tag ≡ 0 → ⊥) → c .value < n .types + fixed-types
   pub undiverging : refersTo k ≡ a-type → (c .tag ≡ 0 → ⊥) → c .value ≡ diverges → ⊥
   pub def : refersTo k ≡ a-def → c .value < n .defs
@@ -55,19 +53,19 @@ pub record FieldOk (n : Counts) (look : Look) (k : ℕ) (c : Cell) : Type 0 wher
   pub res-inst : refersTo k ≡ a-res → c .tag ≡ 4 → c .value < n .insts
 
 -- at most so many levels: of a child, and of a declared type in a type (`levelsOf` of refs)
-unfoldable pub partUp : (ℕ → ℕ → ℕ) → ℕ → Cell → ℕ
-partUp up k c = cond (isChild k (c .tag)) (up key-node (c .value)) (cond (eqb k LowType) (cond (leb fixed-types (c .value)) (up key-type (c .value - fixed-types)) 0) 0)
+unfoldable pub partBound : (ℕ → ℕ → ℕ) → ℕ → Cell → ℕ
+partBound bound k c = cond (isChild k (c .tag)) (bound key-node (c .value)) (cond (eqb k LowType) (cond (leb fixed-types (c .value)) (bound key-type (c .value - fixed-types)) 0) 0)
 
 -- the row of the number i of the key k: it has a text, is of its key, its fields refer to what is there, and it has at most up k i levels
-pub record RowOk (n : Counts) (look : Look) (up : ℕ → ℕ → ℕ) (k i : ℕ) : Type 0 where
-  pub writes : WritesRow (look k i)
+pub record WellFormedRow (n : Counts) (look : Lookup) (bound : ℕ → ℕ → ℕ) (k i : ℕ) : Type 0 where
+  pub writable : WritableRow (look k i)
   pub key : keyAt (look k i .form) ≡ k
-  pub fields : (a : ℕ) → a < length (look k i .cells) → FieldOk (behind n k i) look (kindOf (look k i) a) (cellOf (look k i) a)
-  pub level : levelsOver (look k i .form) 0 ≤ up k i
-  pub levels : (a : ℕ) → a < length (look k i .cells) → levelsOver (look k i .form) (partUp up (kindOf (look k i) a) (cellOf (look k i) a)) ≤ up k i
+  pub fields : (a : ℕ) → a < length (look k i .cells) → WellFormedField (behind n k i) look (kindOf (look k i) a) (cellOf (look k i) a)
+  pub level : levelsOver (look k i .form) 0 ≤ bound k i
+  pub levels : (a : ℕ) → a < length (look k i .cells) → levelsOver (look k i .form) (partBound bound (kindOf (look k i) a) (cellOf (look k i) a)) ≤ bound k i
 
 -- the field a of the row of the number i of the key k is a child, the node x
-pub record ChildOf (look : Look) (k i a x : ℕ) : Type 0 where
+pub record ChildOf (look : Lookup) (k i a x : ℕ) : Type 0 where
   pub there : a < length (look k i .cells)
   pub child : isChild (kindOf (look k i) a) (cellOf (look k i) a .tag) ≡ true
   pub value : cellOf (look k i) a .value ≡ x
@@ -79,19 +77,19 @@ valuesOf (c ∷ cs) = c .value ∷ valuesOf cs
 
 -- a body that is accepted: counts within the limits, each row good, a child of one field only, no two type rows equal, K and D of types there, and a bound
 -- on levels, which the one who makes the body chooses, within the limits
-pub record GoodBody (n : Counts) (look : Look) : Type 0 where
-  pub up : ℕ → ℕ → ℕ
+pub record WellFormedRows (n : Counts) (look : Lookup) : Type 0 where
+  pub bound : ℕ → ℕ → ℕ
   pub limited : (k : ℕ) → k < 5 → countOf n k ≤ limitOf k
-  pub rows : (k i : ℕ) → Has n k i → RowOk n look up k i
+  pub rows : (k i : ℕ) → Has n k i → WellFormedRow n look bound k i
   pub once : (k i a k′ i′ a′ x : ℕ) → Has n k i → Has n k′ i′ → ChildOf look k i a x → ChildOf look k′ i′ a′ x → (k ≡ k′) × (i ≡ i′) × (a ≡ a′)
   pub distinct : (i j : ℕ) → i < j → j < n .types → look key-type i .form ≡ look key-type j .form
       → valuesOf (look key-type i .cells) ≡ valuesOf (look key-type j .cells) → ⊥
   pub insts-there : (i : ℕ) → i < n .types → look key-type i .form ≡ form-inst → cellOf (look key-type i) 0 .value < n .insts
   pub defs-there : (i : ℕ) → i < n .types → look key-type i .form ≡ form-fn → cellOf (look key-type i) 0 .value < n .defs
-  pub nesting : (i : ℕ) → i < n .types → up key-type i ≤ 4
-  pub depth : (i : ℕ) → i < n .nodes → up key-node i ≤ 64
+  pub nesting : (i : ℕ) → i < n .types → bound key-type i ≤ 4
+  pub depth : (i : ℕ) → i < n .nodes → bound key-node i ≤ 64
 
 -- tables with the counts n′ and the rows of a body
-pub record HasRows (n : Counts) (look : Look) (n′ : Counts) (rows cells : List ℕ) : Type 0 where
+pub record HasRows (n : Counts) (look : Lookup) (n′ : Counts) (rows cells : List ℕ) : Type 0 where
   pub counts : (k : ℕ) → k < 5 → countOf n′ k ≡ countOf n k
   pub seen : (k i : ℕ) → Has n k i → rowAt rows cells (baseOf k + i) ≡ look k i
