@@ -38,22 +38,10 @@ fn put_slashed(s: &mut [u8], n: usize) {
     }
 }
 
-// Whether every byte is b.
-fn all_are(s: &[u8], b: u8) -> bool {
-    let mut i = 0;
-    while i < s.len() {
-        if s[i] != b {
-            return false;
-        }
-        i += 1;
-    }
-    true
-}
-
 // Whether the bytes from n on are b.
 fn rest_is(s: &[u8], n: usize, b: u8) -> bool {
     if n <= s.len() {
-        return all_are(&s[n..], b);
+        return sample_input::bytes_filled(s, n, b);
     }
     false
 }
@@ -61,10 +49,10 @@ fn rest_is(s: &[u8], n: usize, b: u8) -> bool {
 // Whether what is behind the text is as it was, or on a refusal the whole output zero.
 fn right_behind(r: Quarreled, out: &[u8]) -> bool {
     match r {
-        Quarreled::Refused(a) => all_are(out, 0),
+        Quarreled::Refused(a) => sample_input::bytes_filled(out, 0, 0),
         Quarreled::Written(a, n) => rest_is(out, n, samples::BYTE_BEFORE),
-        Quarreled::Nothing(a) => all_are(out, 0),
-        Quarreled::NoRoom(a) => all_are(out, 0),
+        Quarreled::Nothing(a) => sample_input::bytes_filled(out, 0, 0),
+        Quarreled::NoRoom(a) => sample_input::bytes_filled(out, 0, 0),
     }
 }
 

@@ -1,17 +1,11 @@
 // Replays the recorded samples of standard input through `report`, prints what is wrong in each that does not agree, and last how many
-// agree. The comment lines at the top of `stdin` say how a sample is written. The input may have any length: it is read in parts, and
-// one sample of it is kept. Before each body every cell of every table and every byte of the output is 7.
+// agree. The comment lines at the top of `stdin` say how a sample is written. The input may have any length. Before each body every
+// cell of every table and every byte of the output is 7.
 ghost use Prim.Native.Nat.{_≤_};
 use body_text::Room;
-use libc::STDIN_FILENO;
-use libc::STDOUT_FILENO;
-
-// Room for the two lines of a sample.
-const SAMPLE: usize = 200000;
-
-type Sample = [u8; SAMPLE];
-
-// ── samples ──
+use sample_input::Next;
+use sample_input::Part;
+use sample_input::Sample;
 
 // A body on these tables and this output.
 fn run_report(
@@ -106,64 +100,6 @@ fn run_lines(s: &[u8], e: &[u8]) -> bool {
     run_text(&mut room, s, k, e)
 }
 
-// ── lines ──
-
-// How far the replay is.
-struct Replay {
-    // Bytes of the present sample.
-    bytes: usize,
-    // Samples that agree.
-    agree: u64,
-}
-
-// How many agree with one more sample.
-fn counted(n: u64, good: bool) -> u64 {
-    if good {
-        if n < u64::MAX {
-            return n + 1;
-        }
-    }
-    n
-}
-
-// One byte more of a sample, where there is room.
-fn push(sample: &mut Sample, r: Replay, b: u8) -> Replay {
-    let n = r.bytes;
-    if n < SAMPLE {
-        sample[n] = b;
-        return Replay {
-            bytes: n + 1,
-            agree: r.agree,
-        };
-    }
-    r
-}
-
-// What the bytes of a sample are at the end of a line.
-enum Stage {
-    // A comment, or an empty line.
-    Nothing,
-    // The first line.
-    First,
-    // Both lines, the first up to this place.
-    Both(usize),
-}
-
-// What the first n bytes of a sample are.
-fn stage_of(s: &[u8], n: usize) -> Stage {
-    if s.len() < n {
-        return Stage::Nothing;
-    }
-    if !body_text::has_body(&s[0..n]) {
-        return Stage::Nothing;
-    }
-    let k = body_text::find(&s[0..n], 0, b'\n');
-    if k < n {
-        return Stage::Both(k);
-    }
-    Stage::First
-}
-
 // The sample of the first n bytes, whose first line ends at k.
 fn run_sample(s: &[u8], n: usize, k: usize) -> bool {
     if s.len() < n {
@@ -175,73 +111,28 @@ fn run_sample(s: &[u8], n: usize, k: usize) -> bool {
     false
 }
 
-// The end of a line.
-fn end_line(sample: &mut Sample, r: Replay) -> Replay {
-    let n = r.bytes;
-    match stage_of(sample, n) {
-        Stage::Nothing => Replay {
-            bytes: 0,
-            agree: r.agree,
-        },
-        Stage::First => push(sample, r, b'\n'),
-        Stage::Both(k) => {
-            let good = run_sample(sample, n, k);
-            Replay {
-                bytes: 0,
-                agree: counted(r.agree, good),
-            }
-        }
+// How many samples of the input agree. Nothing says that it ends, so they are counted down from a number that no run uses up.
+fn run(part: &mut Part, sample: &mut Sample) -> u64 {
+    let mut agree = 0;
+    let mut p = sample_input::start();
+    let mut left = u64::MAX;
+    while left > 0 {
+        let next = sample_input::next_sample(part, sample, p);
+        let Next::Sample(c) = next else {
+            return agree;
+        };
+        let good = run_sample(sample, c.bytes, c.first);
+        agree = sample_input::counted(agree, good);
+        p = c.place;
+        left -= 1;
     }
-}
-
-// One byte more of the input.
-fn take_byte(sample: &mut Sample, r: Replay, b: u8) -> Replay {
-    if b == b'\n' {
-        return end_line(sample, r);
-    }
-    push(sample, r, b)
-}
-
-// A part of the input.
-fn take(sample: &mut Sample, r: Replay, s: &[u8]) -> Replay {
-    let mut now = r;
-    let mut i = 0;
-    while i < s.len() {
-        now = take_byte(sample, now, s[i]);
-        i += 1;
-    }
-    now
-}
-
-// The end of the input ends a line that has none, and a sample without a second line.
-fn end(sample: &mut Sample, r: Replay) -> u64 {
-    let a = end_line(sample, r);
-    let b = end_line(sample, a);
-    b.agree
-}
-
-// How many samples of the input agree. It is read in parts of 65,536 bytes. Nothing says that it ends, so the parts are counted down
-// from a number that no run uses up.
-fn run(sample: &mut Sample) -> u64 {
-    let mut r = Replay { bytes: 0, agree: 0 };
-    let mut parts = u64::MAX;
-    while parts > 0 {
-        let mut part = io::large_buffer();
-        let m = io::read_full(STDIN_FILENO, &mut part);
-        if m == 0 {
-            return end(sample, r);
-        }
-        r = take(sample, r, &part[..m]);
-        parts -= 1;
-    }
-    r.agree
+    agree
 }
 
 // The samples of standard input.
 fn main() {
-    let mut sample = [0u8; SAMPLE];
-    let n = run(&mut sample);
-    io::write_all(STDOUT_FILENO, b"agree=");
-    io::print_decimal(STDOUT_FILENO, n);
-    io::write_all(STDOUT_FILENO, b"\n");
+    let mut part = [0u8; sample_input::PART];
+    let mut sample = [0u8; sample_input::SAMPLE];
+    let n = run(&mut part, &mut sample);
+    sample_input::put_count(b"agree", n);
 }

@@ -5,7 +5,6 @@ use answers::Answer;
 use answers::Totals;
 use body::Answer as Reading;
 use forms::Fault;
-use libc::STDOUT_FILENO;
 use refs::Counts;
 use report_text::Reported;
 
@@ -48,18 +47,6 @@ fn filled(t: &[u16], f: usize, x: u16) -> bool {
     let mut i = f;
     while i < t.len() {
         if t[i] != x {
-            return false;
-        }
-        i += 1;
-    }
-    true
-}
-
-// Every byte from the place f on is x.
-fn bytes_filled(s: &[u8], f: usize, x: u8) -> bool {
-    let mut i = f;
-    while i < s.len() {
-        if s[i] != x {
             return false;
         }
         i += 1;
@@ -176,18 +163,6 @@ fn number(s: &[u8], k: u8) -> u32 {
 }
 
 // ── what is wrong ──
-
-// Names a sample and what is wrong in it, if it is; whether it is right.
-fn told(name: &[u8], what: &[u8], good: bool) -> bool {
-    if good {
-        return true;
-    }
-    io::write_all(STDOUT_FILENO, name);
-    io::write_all(STDOUT_FILENO, b": ");
-    io::write_all(STDOUT_FILENO, what);
-    io::write_all(STDOUT_FILENO, b"\n");
-    false
-}
 
 // Both are right.
 fn both(a: bool, b: bool) -> bool {
@@ -455,12 +430,12 @@ fn answer_agrees(t: &[u8], a: Answer) -> bool {
 
 // The text of n bytes that was written is the recorded one, and the bytes behind it are as before.
 fn written_agrees(name: &[u8], t: &[u8], a: Answer, n: usize, out: &[u8]) -> bool {
-    let x = told(name, b"answer", answer_agrees(t, a));
-    let y = told(name, b"text", same_text(t, out, n));
-    let z = told(
+    let x = sample_input::told(name, b"answer", answer_agrees(t, a));
+    let y = sample_input::told(name, b"text", same_text(t, out, n));
+    let z = sample_input::told(
         name,
         b"bytes behind the text",
-        bytes_filled(out, n, BYTE_BEFORE),
+        sample_input::bytes_filled(out, n, BYTE_BEFORE),
     );
     both(x, both(y, z))
 }
@@ -469,11 +444,15 @@ fn written_agrees(name: &[u8], t: &[u8], a: Answer, n: usize, out: &[u8]) -> boo
 fn no_room_agrees(name: &[u8], t: &[u8], a: Answer, out: &[u8]) -> bool {
     let k = body_text::find(t, 0, b'/');
     if t.len() <= k {
-        return told(name, b"text", false);
+        return sample_input::told(name, b"text", false);
     }
-    let x = told(name, b"text", starts(t, b"answer=9,-\n"));
-    let y = told(name, b"answer", answer_agrees(&t[k + 1..], a));
-    let z = told(name, b"bytes behind the text", bytes_filled(out, 0, 0));
+    let x = sample_input::told(name, b"text", starts(t, b"answer=9,-\n"));
+    let y = sample_input::told(name, b"answer", answer_agrees(&t[k + 1..], a));
+    let z = sample_input::told(
+        name,
+        b"bytes behind the text",
+        sample_input::bytes_filled(out, 0, 0),
+    );
     both(x, both(y, z))
 }
 
@@ -504,9 +483,9 @@ fn all_tables_agree(
 ) -> bool {
     let x = held_by(a);
     let h = hash_all(nodes, vars, types, errors, log);
-    let y = told(name, b"tables", tables_agree(t, x, h));
+    let y = sample_input::told(name, b"tables", tables_agree(t, x, h));
     let good = rest_good(s, x, rows, cells, nodes, vars, types, errors, log, memory);
-    let z = told(name, b"rest", good);
+    let z = sample_input::told(name, b"rest", good);
     both(y, z)
 }
 
@@ -529,7 +508,7 @@ pub fn agree(
 ) -> bool {
     let k = body_text::find(e, 0, b' ');
     if e.len() <= k {
-        return told(name, b"no recorded outcome", false);
+        return sample_input::told(name, b"no recorded outcome", false);
     }
     let x = output_agrees(name, &e[k + 1..], r, out);
     let a = report_text::answer_of(r);

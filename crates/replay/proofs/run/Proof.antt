@@ -1,44 +1,41 @@
--- `replay::run` is safe and ends: the measure is the number of parts that are left. Assumes nothing.
+-- `replay::run` is safe and ends: the measure is the number of samples that are left. Assumes nothing.
 use native.Mathlib.Omega.{arith}
 use borrow.Author.Needs.{needs}
 use Rattle.replay.proofs.run.Statement.{statement}
 use Rattle.replay.proofs.run.Tie as tie
 
 abbrev Inv-loop : tie.InvT-loop
-Inv-loop sample₀ r₀ parts₀ sample r parts = Unit {0}
+Inv-loop part₀ sample₀ agree₀ p₀ left₀ part sample agree p left = Unit {0}
 
 abbrev μ-loop : tie.MeasureT-loop
-μ-loop sample₀ r₀ parts₀ sample r parts = parts
+μ-loop part₀ sample₀ agree₀ p₀ left₀ part sample agree p left = left
+
+start-requires : tie.Need-start-requires Inv-loop μ-loop
+start-requires c κs = search needs
 
 loop-holds : tie.Need-loop-holds Inv-loop μ-loop
 loop-holds c = tt
 
-large-buffer-requires : tie.Need-large-buffer-requires Inv-loop μ-loop
-large-buffer-requires c κs = search needs
+next-sample-requires : tie.Need-next-sample-requires Inv-loop μ-loop
+next-sample-requires c κs = search needs
 
-slice-aggregate-read-full : tie.Need-slice-aggregate-read-full Inv-loop μ-loop
-slice-aggregate-read-full c = search needs
+enum-known-next : tie.Need-enum-known-next Inv-loop μ-loop
+enum-known-next c = search needs
 
-read-full-requires : tie.Need-read-full-requires Inv-loop μ-loop
-read-full-requires c κs = search needs
-
-end-requires : tie.Need-end-requires Inv-loop μ-loop
-end-requires c κs = search needs
+enum-told : tie.Need-enum-told Inv-loop μ-loop
+enum-told c = search needs
 
 returns : tie.Need-returns Inv-loop μ-loop
 returns c = search needs
 
-array-share-prefix-part : tie.Need-array-share-prefix-part Inv-loop μ-loop
-array-share-prefix-part c = search needs
+run-sample-requires : tie.Need-run-sample-requires Inv-loop μ-loop
+run-sample-requires c κs = search needs
 
-slice-aggregate-take : tie.Need-slice-aggregate-take Inv-loop μ-loop
-slice-aggregate-take c = search needs
+counted-requires : tie.Need-counted-requires Inv-loop μ-loop
+counted-requires c κs = search needs
 
-take-requires : tie.Need-take-requires Inv-loop μ-loop
-take-requires c κs = search needs
-
-sub-parts : tie.Need-sub-parts Inv-loop μ-loop
-sub-parts c = omega arith
+sub-left : tie.Need-sub-left Inv-loop μ-loop
+sub-left c = omega arith
 
 loop-less : tie.Need-loop-less Inv-loop μ-loop
 loop-less c = omega arith
@@ -55,16 +52,15 @@ run-spec =
     (tie.spec
     Inv-loop
     μ-loop
+    start-requires
     loop-holds
-    large-buffer-requires
-    slice-aggregate-read-full
-    read-full-requires
-    end-requires
+    next-sample-requires
+    enum-known-next
+    enum-told
     returns
-    array-share-prefix-part
-    slice-aggregate-take
-    take-requires
-    sub-parts
+    run-sample-requires
+    counted-requires
+    sub-left
     loop-less
     loop-again
     returns-2)

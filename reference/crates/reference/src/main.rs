@@ -4,6 +4,7 @@ mod cases;
 mod conflicts;
 mod features;
 mod many;
+mod recorded;
 mod run_files;
 mod sample;
 mod shortest;
@@ -42,6 +43,7 @@ usage: reference report [FILE]        what the original gives for a body, in doc
        reference wrong LIST WORKSPACE DIR   wrong versions of the rules' program on the recorded samples
        reference sample DIR LENT FILE..   writes the recorded samples to DIR, with the cases of these files; those of LENT are
                                       about the lengths of the lent tables and the output
+       reference sample-writing DIR FROM   writes to DIR the recorded samples of FROM once more, for write_run, and what is expected of them
        reference sample-quarrels DIR FILE   writes the bodies of quarrel_run to DIR and what is expected of them, with the cases of
                                       this file
        reference sample-shortest DIR FILE   the same of shortest_run
@@ -96,7 +98,8 @@ fn command(args: &[&str]) -> Result<bool, String> {
         ["sample-shortest", dir, file] => shortest::files(&read(file)?)?.write(dir).map(|()| true),
         ["replay", dir] => replay(dir),
         ["wrong", list, workspace, dir] => wrong::run(list, workspace, dir),
-        ["sample", dir, lent, files @ ..] => write(dir, &read_cases(&[lent])?, &read_cases(files)?),
+        ["sample", dir, lent, files @ ..] => write(dir, sample::files(&read_cases(&[lent])?, &read_cases(files)?)?),
+        ["sample-writing", dir, from] => write(dir, recorded::write_run_files(read(&format!("{from}/stdin"))?)?),
         _ => Err(USAGE.to_string()),
     }
 }
@@ -209,26 +212,21 @@ fn test(files: &[&str]) -> Result<bool, String> {
 }
 
 fn replay(dir: &str) -> Result<bool, String> {
-    let file = format!("{dir}/stdin");
-    let samples = read(&file)?;
-    let mut lines = samples.lines().filter(|l| !l.is_empty() && !l.starts_with('#'));
     let (mut same, mut different) = (0, 0);
-    while let Some(line) = lines.next() {
-        let (name, text) = line.split_once(' ').unwrap_or((line, ""));
-        let bytes = text::expand(text).ok_or_else(|| format!("{name}: not a text"))?;
-        if lines.next() == Some(&Left::of(&bytes, &Lent::of(name)).line()) {
+    for sample in recorded::parse(&read(&format!("{dir}/stdin"))?)? {
+        if sample.left == Left::of(&sample.bytes, &Lent::of(sample.name)).line() {
             same += 1;
         } else {
             different += 1;
-            println!("{name} differs");
+            println!("{} differs", sample.name);
         }
     }
     println!("{same} the same, {different} different");
     Ok(different == 0)
 }
 
-fn write(dir: &str, lent: &[Case], cases: &[Case]) -> Result<bool, String> {
-    for (name, text) in sample::files(lent, cases)? {
+fn write(dir: &str, files: Vec<(&str, String)>) -> Result<bool, String> {
+    for (name, text) in files {
         let path = format!("{dir}/{name}");
         std::fs::write(&path, text).map_err(|e| format!("{path}: {e}"))?;
     }

@@ -291,8 +291,9 @@ const HEAD: &str = "\
 #              1 and 2: a cell of a table is not as before. Before each body every cell and every byte of the output is 7
 # and last how many samples agree.
 #
-# This file is made by reference/samples, with stdout. First come the bodies that the original checker judges: those by hand, then
-# generated ones, named by their family and index.
+# This file is made by reference/samples, with stdout. It is there once more for the program `write_run`, which takes the first line of a
+# sample alone; what that prints stands at the top of its main.rt. First come the bodies that the original checker judges: those by
+# hand, then generated ones, named by their family and index.
 ";
 
 const SECOND: &str = "\

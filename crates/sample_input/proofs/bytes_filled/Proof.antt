@@ -1,9 +1,9 @@
--- `samples::bytes_filled` is safe and ends: every turn goes one byte on. Assumes nothing.
+-- `sample_input::bytes_filled` is safe and ends: every turn goes one byte on. Assumes nothing.
 use lib.ListN.{length}
 use Prim.Native.Nat.{_-_}
 use borrow.Author.Needs.{needs}
-use Rattle.samples.proofs.bytes_filled.Statement.{statement}
-use Rattle.samples.proofs.bytes_filled.Tie as tie
+use Rattle.sample_input.proofs.bytes_filled.Statement.{statement}
+use Rattle.sample_input.proofs.bytes_filled.Tie as tie
 
 abbrev Inv-loop : tie.InvT-loop
 Inv-loop s f x i₀ i = Unit {0}
