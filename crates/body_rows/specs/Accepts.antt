@@ -6,7 +6,7 @@ use native.Mathlib.Omega.{arith}
 use mathlib.Core.Path.{_≡_, refl, sym, ap, subst, _∙_}
 use mathlib.Core.Logic.{_⊎_, inl, inr}
 use mathlib.Core.List.{List, [], _∷_, _++_, append-assoc, map}
-use mathlib.Core.Bool.{Bool, true, false, cond, false≢true}
+use mathlib.Core.Bool.{Bool, true, false, cond}
 use lib.Dec.{leb, ltb, eqb}
 use lib.ListN.{length, length-append}
 use borrow.Author.Tests.{ltb-true, ltb-false, leb-true, eqb-true, eqb-false, eq-eqb, ne-eqb, le-ltb, lt-leb, le-leb}
@@ -20,7 +20,8 @@ use Rattle.well_formed.specs.Good.{writtenAs, behind}
 use Rattle.well_formed.specs.Parsed.{ParsedGood, parsed-good}
 use Rattle.well_formed.specs.Counting.{grown, counted-more, counted-own}
 use Rattle.well_formed.specs.Bytes.{Enough, letters, key-letters, line-enough}
-use Rattle.well_formed.specs.Linked.{LinkedGood, linked-good}
+use Rattle.well_formed.specs.Frame.{low-type-tag}
+use Rattle.well_formed.specs.Linked.{LinkedGood, child-kind, linked-good}
 use Rattle.well_formed.specs.Stored.{stored-tag, stored-value, put-user}
 use Rattle.well_formed.specs.Reading.{Reading, counted-key}
 use Rattle.well_formed.specs.Step.{levels-over-le}
@@ -45,12 +46,7 @@ tagged-by k κ tag x kinds w = record { child = λ e t. rw (e, one e t (kinds .n
     one e t (inl q) = eqb-true tag 1 (rw q at w)
     one e t (inr q) = let l : tag < 2 = ltb-true tag 2 (rw q at w) in omega (arith, l, t)
 
--- a type in a type is a number
-low-number : (tag x : ℕ) → writtenAs (LowType / 16) tag x ≡ true → tag ≡ 1
-unfolding writtenAs
-low-number tag x w = eqb-true tag 1 w
-
--- and refers to a type
+-- a type in a type refers to a type
 low-type : refersTo LowType ≡ a-type
 unfolding refersTo
 low-type = refl
@@ -192,17 +188,9 @@ module _ (n : Counts) (look : Lookup) (good : WellFormedRows n look) where
     tagged : (a : ℕ) → a < m → Tagged (kindOf r a) (cellOf r a .tag)
     tagged a h = tagged-by k (kindOf r a) (cellOf r a .tag) (cellOf r a .value) (kinds a) (written a h)
 
-    child-node : (κ t : ℕ) → isChild κ t ≡ true → refersTo κ ≡ a-node
-    unfolding isChild
-    child-node κ t h = by (eqb (refersTo κ) a-node) refl h
-      where
-        by : (c : Bool) → eqb (refersTo κ) a-node ≡ c → cond c (eqb t 1) false ≡ true → refersTo κ ≡ a-node
-        by true e h = eqb-true (refersTo κ) a-node e
-        by false e h = absurd (false≢true h)
-
     -- a child of the row is a node that was read,
     child-read : (a : ℕ) → a < m → isChild (kindOf r a) (cellOf r a .tag) ≡ true → cellOf r a .value < st .counts .nodes
-    child-read a h c = omega (arith, ok .fields a h .child-lower c, agree .nodes (kinds a .node-late (child-node (kindOf r a) (cellOf r a .tag) c)))
+    child-read a h c = omega (arith, ok .fields a h .child-lower c, agree .nodes (kinds a .node-late (child-kind (kindOf r a) (cellOf r a .tag) c .0)))
 
     -- which nothing uses yet
     free : (a : ℕ) → a < m → isChild (kindOf r a) (cellOf r a .tag) ≡ true → userIn rows (nodes-at + cellOf r a .value) ≡ 0
@@ -212,7 +200,7 @@ module _ (n : Counts) (look : Lookup) (good : WellFormedRows n look) where
         by : (userIn rows (nodes-at + cellOf r a .value) ≡ 0) ⊎ Used st (cellOf r a .value) → userIn rows (nodes-at + cellOf r a .value) ≡ 0
         by (inl e) = e
         by (inr (b′, a′, l, u)) =
-            let late : key-node ≤ k = kinds a .node-late (child-node (kindOf r a) (cellOf r a .tag) c) in
+            let late : key-node ≤ k = kinds a .node-late (child-kind (kindOf r a) (cellOf r a .tag) c .0) in
             let q = good .once key-node b′ a′ k i a (cellOf r a .value) (nodes-within late b′ l) has u (record { there = h; child = c; value = refl }) in
             absurd (omega (arith, l, q .1, at .own, ap (countOf (st .counts)) (q .0)))
 
@@ -305,7 +293,7 @@ module _ (n : Counts) (look : Lookup) (good : WellFormedRows n look) where
         by true p d q e s = at .ranked key-node x (child-read a h p)
         by false p true q true s =
             let low : kindOf r a ≡ LowType = eqb-true (kindOf r a) LowType q in
-            let tag : cellOf r a .tag ≡ 1 = low-number (cellOf r a .tag) x (rw low at (written a h)) in
+            let tag : cellOf r a .tag ≡ 1 = low-type-tag (kindOf r a) (cellOf r a .tag) x low (written a h) in
             let under : x < behind n k i .types + fixed-types = ok .fields a h .type (ap refersTo low ∙ low-type) (λ z. omega (arith, z, tag)) in
             rw (zero-add (x - fixed-types)) at (at .ranked key-type (x - fixed-types) (omega (arith, under, agree .types, leb-true fixed-types x s)))
         by false p true q false s = omega arith
@@ -438,7 +426,7 @@ module _ (n : Counts) (look : Lookup) (good : WellFormedRows n look) where
         by (inr (a, l, c, v)) g =
             let c′ : isChild (kindOf r a) (cellOf r a .tag) ≡ true = rw (zero-add a, tag-stored a l) at c in
             let v′ : cellOf r a .value ≡ x = sym (value-stored a l) ∙ v in
-            let node : k ≡ key-node = omega (arith, five, kinds a .node-late (child-node (kindOf r a) (cellOf r a .tag) c′)) in
+            let node : k ≡ key-node = omega (arith, five, kinds a .node-late (child-kind (kindOf r a) (cellOf r a .tag) c′ .0)) in
             inr (i, a, omega (arith, own-next five, ap (countOf (st′ .counts)) node), subst (λ (y : ℕ). ChildOf look y i a x) node (record { there = l; child = c′; value = v′ }))
 
     -- before the next row of the key

@@ -15,10 +15,12 @@ use Rattle.forms.specs.declared.Form.{Form}
 use Rattle.forms.specs.declared.Cell.{Cell}
 use Rattle.forms.specs.Form.{key-bind, key-node, forms, formAt, kindAt}
 use Rattle.refs.specs.declared.Counts.{Counts}
-use Rattle.refs.specs.Refs.{nodes-at, fixed-types, diverges, form-param, formIn, firstIn, countIn, userIn, tagIn, valueIn, a-type, a-def, a-node, a-res, refersTo, isChild, isType, isExpr, isTyped, isLast, stands, isFree, isLocal, isRes, right, levelsOf, larger, taken, unlinked, linked, refsFrom, sameValues, isSame, isRepeated}
+use Rattle.refs.specs.Refs.{nodes-at, fixed-types, diverges, form-param, formIn, firstIn, countIn, userIn, tagIn, valueIn, a-type, a-def, a-node, a-res, refersTo, isChild, isType, isExpr, isTyped, isLast, stands, isFree, isLocal, isRes, right, levelsOf, larger, taken, linked, refsFrom, sameValues, isSame, isRepeated}
 use Rattle.forms.specs.Words.{both}
 use Rattle.well_formed.specs.Counting.{each, each-at}
+use Rattle.well_formed.specs.Columns.{RowStays, form-same, first-same}
 use Rattle.well_formed.specs.Kept.{stands-same}
+use Rattle.well_formed.specs.Linked.{first-field, later-fields, step}
 use Rattle.well_formed.specs.Parsed.{blank}
 use Rattle.body_rows.specs.Text.{Row, keyAt, Lookup, cellsAt, rowAt, WritableRow}
 use Rattle.body_rows.specs.Steps.{cells-length-at, cells-at}
@@ -219,17 +221,14 @@ right-taken n k tag x j rows cells k′ tag′ x′ h = by (isChild k tag) refl
     rows′ : List ℕ
     rows′ = set rows ((nodes-at + x) * 5 + 4) (j + 1)
 
-    column : (r c : ℕ) → c < 4 → getD rows′ (r * 5 + c) 0 ≡ getD rows (r * 5 + c) 0
-    column r c l = getD-set-other rows ((nodes-at + x) * 5 + 4) (r * 5 + c) (j + 1) 0 (λ q. omega (arith, q))
+    stays : (r : ℕ) → RowStays rows rows′ r
+    stays r c l = getD-set-other rows ((nodes-at + x) * 5 + 4) (r * 5 + c) (j + 1) 0 (λ q. omega (arith, q))
 
-    forms-same : (r : ℕ) → formIn rows′ r ≡ formIn rows r
-    forms-same r = unfold formIn in (rw (add-zero (r * 5)) at (column r 0 (omega arith)))
-
-    firsts-same : (r : ℕ) → firstIn rows′ r ≡ firstIn rows r
-    firsts-same r = unfold firstIn in (column r 1 (omega arith))
+    form : formIn rows′ (nodes-at + x′) ≡ formIn rows (nodes-at + x′)
+    form = form-same rows rows′ (nodes-at + x′) (stays (nodes-at + x′))
 
     stand : stands n k′ x′ rows′ cells ≡ stands n k′ x′ rows cells
-    stand = stands-same n n k′ x′ rows rows′ cells cells (λ e. refl) (forms-same (nodes-at + x′)) (firsts-same (nodes-at + x′)) (λ e. refl)
+    stand = stands-same n n k′ x′ rows rows′ cells cells (λ e. refl) form (first-same rows rows′ (nodes-at + x′) (stays (nodes-at + x′))) (λ e. refl)
 
     user : (x ≡ x′ → ⊥) → userIn rows′ (nodes-at + x′) ≡ userIn rows (nodes-at + x′)
     user d = unfold userIn in (getD-set-other rows ((nodes-at + x) * 5 + 4) ((nodes-at + x′) * 5 + 4) (j + 1) 0 (λ q. d (omega (arith, q))))
@@ -238,7 +237,7 @@ right-taken n k tag x j rows cells k′ tag′ x′ h = by (isChild k tag) refl
     free d = unfold isFree in rw (user d, stand)
 
     res : isRes n tag′ x′ rows′ ≡ isRes n tag′ x′ rows
-    res = unfold isRes isLocal in rw (forms-same (nodes-at + x′))
+    res = unfold isRes isLocal in rw form
 
     at : isChild k tag ≡ true → (z : Bool) → eqb tag′ 0 ≡ z → (s : Bool) → eqb (refersTo k′) a-node ≡ s
         → cond z true (cond (eqb (refersTo k′) a-type) (isType n x′) (cond (eqb (refersTo k′) a-def) (ltb x′ (n .defs)) (cond s (isFree n k′ x′ rows′ cells) (cond (eqb (refersTo k′) a-res) (isRes n tag′ x′ rows′) true))))
@@ -250,17 +249,6 @@ right-taken n k tag x j rows cells k′ tag′ x′ h = by (isChild k tag) refl
     by : (b : Bool) → isChild k tag ≡ b → right n k′ tag′ x′ (cond b rows′ rows) cells ≡ right n k′ tag′ x′ rows cells
     by true c = at c (eqb tag′ 0) refl (eqb (refersTo k′) a-node) refl
     by false c = refl
-
--- what holds of the fields from the first on holds of those from the second on
-shift : (Q : ℕ → ℕ → Type 0) (i j m : ℕ) → ((a : ℕ) → a < suc m → Q (i + a) (j + a)) → (a : ℕ) → a < m → Q (i + 1 + a) (j + 1 + a)
-shift Q i j m h a b =
-    let p : i + 1 + a ≡ i + suc a = omega arith in
-    let q : j + 1 + a ≡ j + suc a = omega arith in
-    rw (p, q) (h (suc a) (omega arith))
-
--- what holds of all fields holds of the first
-first-one : (Q : ℕ → ℕ → Type 0) (i j m : ℕ) → ((a : ℕ) → a < suc m → Q (i + a) (j + a)) → Q i j
-first-one Q i j m h = rw (add-zero i, add-zero j) at (h 0 (omega arith))
 
 -- the fields at j and j′ of the kinds k and k′ are not both children with one value
 abbrev pub Apart : Form → List ℕ → ℕ → ℕ → ℕ → ℕ → Type 0
@@ -282,11 +270,11 @@ refs-link (suc m) n f i j cells d rows h g =
     let k : ℕ = kindAt f i in
     let t : ℕ = tagIn cells j in
     let x : ℕ = valueIn cells j in
-    let one : right n k t x rows cells ≡ true = first-one (λ p q. right n (kindAt f p) (tagIn cells q) (valueIn cells q) rows cells ≡ true) i j m h in
+    let one : right n k t x rows cells ≡ true = first-field (λ p q. right n (kindAt f p) (tagIn cells q) (valueIn cells q) rows cells ≡ true) m i j h in
     let more : Links m n f (i + 1) (j + 1) cells (larger d (levelsOf k t x rows)) (taken k t x j rows) =
     refs-link m n f (i + 1) (j + 1) cells (larger d (levelsOf k t x rows)) (taken k t x j rows)
     (λ a b. right-taken n k t x j rows cells (kindAt f (i + 1 + a)) (tagIn cells (j + 1 + a)) (valueIn cells (j + 1 + a)) (first-apart a b)
-    ∙ shift (λ p q. right n (kindAt f p) (tagIn cells q) (valueIn cells q) rows cells ≡ true) i j m h a b)
+    ∙ later-fields (λ p q. right n (kindAt f p) (tagIn cells q) (valueIn cells q) rows cells ≡ true) m i j h a b)
     (λ a b l u. later-apart a b l u) in
     record { levels = more .levels; after = more .after; links = rw one (more .links) }
   where
@@ -322,7 +310,7 @@ pub linked-users : (m : ℕ) (n : Counts) (f : Form) (i j : ℕ) (cells : List �
 unfolding refsFrom
 linked-users zero n f i j cells d rows e rows′ h y = let q : rows ≡ rows′ = cc in inl (rw (← q))
 linked-users (suc m) n f i j cells d rows e rows′ h y =
-    by (right n k t x rows cells) h (linked-users m n f (i + 1) (j + 1) cells (larger d (levelsOf k t x rows)) (taken k t x j rows) e rows′)
+    either (linked-users m n f (i + 1) (j + 1) cells (larger d (levelsOf k t x rows)) (taken k t x j rows) e rows′ (step (right n k t x rows cells) _ rows e rows′ h .1) y) (taken-users k t x j rows y)
   where
     k : ℕ
     k = kindAt f i
@@ -351,14 +339,6 @@ linked-users (suc m) n f i j cells d rows e rows′ h y =
     either (inl p) (inl q) = inl (p ∙ q)
     either (inl p) (inr q) = inr (first q)
     either (inr p) q = inr (later p)
-
-    by : (b : Bool) → cond b (refsFrom m n f (i + 1) (j + 1) cells (larger d (levelsOf k t x rows)) (taken k t x j rows)) (unlinked rows) ≡ linked e rows′
-        → (refsFrom m n f (i + 1) (j + 1) cells (larger d (levelsOf k t x rows)) (taken k t x j rows) ≡ linked e rows′ → (y : ℕ)
-        → (userIn rows′ (nodes-at + y) ≡ userIn (taken k t x j rows) (nodes-at + y))
-        ⊎ ((a : ℕ) × (a < m) × (isChild (kindAt f (i + 1 + a)) (tagIn cells (j + 1 + a)) ≡ true) × (valueIn cells (j + 1 + a) ≡ y)))
-        → (userIn rows′ (nodes-at + y) ≡ userIn rows (nodes-at + y)) ⊎ Uses (suc m) i j
-    by true h ih = either (ih h y) (taken-users k t x j rows y)
-    by false h ih = let z : _≡_ {A = ℕ} 0 1 = cc in absurd (omega arith)
 
 -- ── types that stand already ──
 

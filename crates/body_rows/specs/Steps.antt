@@ -14,11 +14,12 @@ use Rattle.forms.specs.declared.Cell.{Cell}
 use Rattle.forms.specs.declared.Fault.the-variants as fault
 use Rattle.forms.specs.Form.{cell, formAt, kindAt, store, storeFrom}
 use Rattle.refs.specs.declared.Counts.{Counts}
-use Rattle.refs.specs.Refs.{formIn, firstIn, countIn, levelsIn, nameIn, tagIn, valueIn, right, levelsOf, larger, taken, Linked, unlinked, linked, refsFrom}
+use Rattle.refs.specs.Refs.{firstIn, countIn, levelsIn, nameIn, tagIn, valueIn, right, levelsOf, larger, taken, Linked, unlinked, linked, refsFrom}
 use Rattle.body.specs.declared.State.{State}
 use Rattle.body.specs.Body.{inOrder, limitOf, countOf, baseOf, levelsOver, advance, putRow, repeats, bad, next, placed, judged}
 use Rattle.well_formed.specs.Counting.{rows-inside}
 use Rattle.well_formed.specs.Stored.{numbers, store-length, stored-before, stored-at, put-other, put-form, put-first, put-count, put-levels}
+use Rattle.well_formed.specs.Columns.{RowStays, form-same, first-same, count-same, levels-same}
 use Rattle.well_formed.specs.Linked.{Columns, taken-columns, taken-length, step}
 use Rattle.well_formed.specs.Reading.{Reading, next-apart}
 use Rattle.well_formed.specs.Step.{in-order}
@@ -172,39 +173,23 @@ module _ (r : Row) (st : State) (cells rows : List ℕ) (e : ℕ) (rows′ : Lis
   apart : (j i : ℕ) → i < countOf (st .counts) j → baseOf j + i ≡ placeOf r st → ⊥
   apart j i h = next-apart (st .counts) j (keyAt (r .form)) i (reading .limited) key-six (m .room) h
 
-  -- a number of a row that stood stays
-  column-old : (j i c : ℕ) → c < 4 → i < countOf (st .counts) j → getD (rowsBehind r st e rows′) ((baseOf j + i) * 5 + c) 0 ≡ getD rows ((baseOf j + i) * 5 + c) 0
-  column-old j i c b h =
+  -- its columns stay,
+  stays : (j i : ℕ) → i < countOf (st .counts) j → RowStays rows (rowsBehind r st e rows′) (baseOf j + i)
+  stays j i h c b =
       put-other rows′ (placeOf r st) (r .form) (st .counts .fields) (length (r .cells)) (levelsOver (r .form) e) (baseOf j + i) c b (apart j i h) ∙ kept .1 (baseOf j + i) c b
 
-  -- its form stays,
-  form-old : (j i : ℕ) → i < countOf (st .counts) j → formIn (rowsBehind r st e rows′) (baseOf j + i) ≡ formIn rows (baseOf j + i)
-  unfolding formIn
-  form-old j i h = rw (add-zero ((baseOf j + i) * 5)) at (column-old j i 0 (omega arith) h)
-
-  -- its first field,
-  first-old : (j i : ℕ) → i < countOf (st .counts) j → firstIn (rowsBehind r st e rows′) (baseOf j + i) ≡ firstIn rows (baseOf j + i)
-  unfolding firstIn
-  first-old j i h = column-old j i 1 (omega arith) h
-
-  -- how many it has
-  count-old : (j i : ℕ) → i < countOf (st .counts) j → countIn (rowsBehind r st e rows′) (baseOf j + i) ≡ countIn rows (baseOf j + i)
-  unfolding countIn
-  count-old j i h = column-old j i 2 (omega arith) h
-
-  -- its levels stay,
+  -- and so its levels,
   pub levels-old : (j i : ℕ) → i < countOf (st .counts) j → levelsIn (rowsBehind r st e rows′) (baseOf j + i) ≡ levelsIn rows (baseOf j + i)
-  unfolding levelsIn
-  levels-old j i h = column-old j i 3 (omega arith) h
+  levels-old j i h = levels-same rows (rowsBehind r st e rows′) (baseOf j + i) (stays j i h)
 
-  -- and so does it
+  -- and the row itself
   pub row-old : (j i : ℕ) → i < countOf (st .counts) j → rowAt (rowsBehind r st e rows′) (cellsBehind r st cells) (baseOf j + i) ≡ rowAt rows cells (baseOf j + i)
   unfolding rowAt
   row-old j i h =
       rw (
-        form-old j i h,
-        first-old j i h,
-        count-old j i h,
+        form-same rows (rowsBehind r st e rows′) (baseOf j + i) (stays j i h),
+        first-same rows (rowsBehind r st e rows′) (baseOf j + i) (stays j i h),
+        count-same rows (rowsBehind r st e rows′) (baseOf j + i) (stays j i h),
         cells-kept cells (st .counts .fields) (r .cells) (firstIn rows (baseOf j + i)) (countIn rows (baseOf j + i)) (reading .good j i h .inside),
       )
 

@@ -111,7 +111,7 @@ field-framed n n′ k j m rows cells rows′ cells′ f w b h g =
     field-kept n n′ k j rows rows′ cells cells′ g (w .types) (w .defs) (w .insts) (w .nodes) b (f .forms) (f .firsts) (f .users) (f .tags j h) (f .values j h) (f .params)
 
 -- a type in a type is a number
-low-type-tag : (k tag x : ℕ) → k ≡ LowType → writtenAs (k / 16) tag x ≡ true → tag ≡ 1
+pub low-type-tag : (k tag x : ℕ) → k ≡ LowType → writtenAs (k / 16) tag x ≡ true → tag ≡ 1
 unfolding writtenAs
 low-type-tag k tag x e w = eqb-true tag 1 (rw e at w)
 

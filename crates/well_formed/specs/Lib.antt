@@ -1,5 +1,6 @@
 pub mod Good
 pub mod Parsed
+pub mod Columns
 pub mod Kept
 pub mod Linked
 pub mod Stored

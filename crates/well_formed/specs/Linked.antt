@@ -15,8 +15,9 @@ use Rattle.forms.specs.declared.Form.{Form}
 use Rattle.forms.specs.Form.{kindAt, LowType, TypeRef, OptType, NamedType, NamedDef, OptExpr, Expr, Block, Stmt, Param, TypedParam, Body, Resolution, Segment}
 use Rattle.forms.specs.Words.{both}
 use Rattle.refs.specs.declared.Counts.{Counts}
-use Rattle.refs.specs.Refs.{nodes-at, fixed-types, diverges, formIn, firstIn, levelsIn, userIn, tagIn, valueIn, a-type, a-def, a-node, a-res, no-row, among, refersTo, isChild, isType, isExpr, stands, isFree, isLocal, isRes, right, levelsOf, larger, taken, refsFrom, Linked, unlinked, linked}
+use Rattle.refs.specs.Refs.{nodes-at, fixed-types, diverges, formIn, levelsIn, userIn, tagIn, valueIn, a-type, a-def, a-node, a-res, no-row, among, refersTo, isChild, isType, isExpr, stands, isFree, isLocal, isRes, right, levelsOf, larger, taken, refsFrom, Linked, unlinked, linked}
 use Rattle.well_formed.specs.Good.{writtenAs, ChildGood, FieldGood}
+use Rattle.well_formed.specs.Columns.{RowStays, form-same, first-same}
 use Rattle.well_formed.specs.Kept.{stands-same, field-kept}
 
 -- m fields from the field i of the form f on, the first of which stands at j, behind n: rows become rows′, and d levels e
@@ -32,22 +33,12 @@ pub record LinkedGood (m : ℕ) (n : Counts) (f : Form) (i j : ℕ) (cells : Lis
 
 -- rows′ keeps the first four columns of each row
 abbrev pub Columns : List ℕ → List ℕ → Type 0
-Columns rows rows′ = (r c : ℕ) → c < 4 → getD rows′ (r * 5 + c) 0 ≡ getD rows (r * 5 + c) 0
+Columns rows rows′ = (r : ℕ) → RowStays rows rows′ r
 
--- rows that keep their first four columns keep their forms
-form-same : (rows rows′ : List ℕ) (r : ℕ) → Columns rows rows′ → formIn rows′ r ≡ formIn rows r
-unfolding formIn
-form-same rows rows′ r h = rw add-zero at (h r 0 (omega arith))
-
--- and their first fields
-first-same : (rows rows′ : List ℕ) (r : ℕ) → Columns rows rows′ → firstIn rows′ r ≡ firstIn rows r
-unfolding firstIn
-first-same rows rows′ r h = h r 1 (omega arith)
-
--- and the levels of what a field refers to
-levels-same : (k tag x : ℕ) (rows rows′ : List ℕ) → Columns rows rows′ → levelsOf k tag x rows′ ≡ levelsOf k tag x rows
+-- such rows keep the levels of what a field refers to
+part-levels-same : (k tag x : ℕ) (rows rows′ : List ℕ) → Columns rows rows′ → levelsOf k tag x rows′ ≡ levelsOf k tag x rows
 unfolding levelsOf levelsIn
-levels-same k tag x rows rows′ h = rw (h (nodes-at + x) 3 (omega arith), h (x - fixed-types) 3 (omega arith))
+part-levels-same k tag x rows rows′ h = rw (h (nodes-at + x) 3 (omega arith), h (x - fixed-types) 3 (omega arith))
 
 -- to take a child keeps the length of the rows
 pub taken-length : (k tag x j : ℕ) (rows : List ℕ) → length (taken k tag x j rows) ≡ length rows
@@ -68,7 +59,7 @@ taken-columns k tag x j rows r c l = by (isChild k tag)
     by false = refl
 
 -- a child has the tag 1 and a kind that refers to a node
-child-kind : (k tag : ℕ) → isChild k tag ≡ true → (refersTo k ≡ a-node) × (tag ≡ 1)
+pub child-kind : (k tag : ℕ) → isChild k tag ≡ true → (refersTo k ≡ a-node) × (tag ≡ 1)
 unfolding isChild
 child-kind k tag h = let p = both (eqb (refersTo k) a-node) (eqb tag 1) h in (eqb-true _ _ (p .0), eqb-true _ _ (p .1))
 
@@ -175,7 +166,7 @@ right-taken n k tag x j rows cells room c h =
       lower = p .0;
       used = taken-used k tag x j rows c (omega arith);
       stands-there =
-          stands-same n n k x rows (taken k tag x j rows) cells cells (λ q. refl) (form-same _ _ (nodes-at + x) same) (first-same _ _ (nodes-at + x) same) (λ q. refl) ∙ p .2;
+          stands-same n n k x rows (taken k tag x j rows) cells cells (λ q. refl) (form-same _ _ (nodes-at + x) (same (nodes-at + x))) (first-same _ _ (nodes-at + x) (same (nodes-at + x))) (λ q. refl) ∙ p .2;
     }
 
 -- a field that is right is good once its child is taken
@@ -191,7 +182,7 @@ right-good n k j rows cells room w h =
       def = λ q. right-def n k tag x rows cells q w h;
       child = λ c. right-taken n k tag x j rows cells room c h;
       local-lower = λ q t. right-local n k tag x rows cells q t h .0;
-      local = λ q t. rw (form-same rows (taken k tag x j rows) (nodes-at + x) (taken-columns k tag x j rows)) (right-local n k tag x rows cells q t h .1);
+      local = λ q t. rw (form-same rows (taken k tag x j rows) (nodes-at + x) (taken-columns k tag x j rows (nodes-at + x))) (right-local n k tag x rows cells q t h .1);
       res-fn = λ q t. right-fn n k tag x rows cells q t h;
       res-constructor = λ q t. right-constructor n k tag x rows cells q t h;
       res-inst = λ q t. right-inst n k tag x rows cells q t h;
@@ -202,7 +193,7 @@ good-later : (n : Counts) (k j : ℕ) (rows rows′ cells : List ℕ) → Column
     → FieldGood n k j rows cells → FieldGood n k j rows′ cells
 good-later n k j rows rows′ cells same users g =
     field-kept n n k j rows rows′ cells cells g (omega arith) (omega arith) (omega arith) (omega arith) (λ q. refl)
-    (λ x l. form-same rows rows′ (nodes-at + x) same) (λ x l. first-same rows rows′ (nodes-at + x) same)
+    (λ x l. form-same rows rows′ (nodes-at + x) (same (nodes-at + x))) (λ x l. first-same rows rows′ (nodes-at + x) (same (nodes-at + x)))
     (λ x l. users (nodes-at + x)) refl refl (λ x l q. refl)
 
 -- the field suc a is the field a behind the first
@@ -215,11 +206,11 @@ all-fields P m i j p rest zero l = rw (add-zero i, add-zero j) p
 all-fields P m i j p rest (suc a) l = rw (later i a, later j a) (rest a (omega arith))
 
 -- what holds of all fields holds of the first
-first-field : (P : ℕ → ℕ → Type 0) (m i j : ℕ) → ((a : ℕ) → a < suc m → P (i + a) (j + a)) → P i j
+pub first-field : (P : ℕ → ℕ → Type 0) (m i j : ℕ) → ((a : ℕ) → a < suc m → P (i + a) (j + a)) → P i j
 first-field P m i j all = rw (add-zero i, add-zero j) at (all 0 (omega arith))
 
 -- and of the rest
-later-fields : (P : ℕ → ℕ → Type 0) (m i j : ℕ) → ((a : ℕ) → a < suc m → P (i + a) (j + a)) → (a : ℕ) → a < m → P (i + 1 + a) (j + 1 + a)
+pub later-fields : (P : ℕ → ℕ → Type 0) (m i j : ℕ) → ((a : ℕ) → a < suc m → P (i + a) (j + a)) → (a : ℕ) → a < m → P (i + 1 + a) (j + 1 + a)
 later-fields P m i j all a l = rw (← later i a, ← later j a) (all (suc a) (omega arith))
 
 -- the larger of two numbers is at least the first
@@ -296,11 +287,11 @@ one-more m n f i j cells d rows e rows′ room w h rest =
       fields = all-fields (λ p q. FieldGood n (kindAt f p) q rows′ cells) m i j good (rest .fields);
       levels =
           all-fields (λ p q. levelsOf (kindAt f p) (tagIn cells q) (valueIn cells q) rows ≤ e) m i j
-          (omega (arith, larger-second d (levelsOf k tag x rows), rest .levels-before)) (λ a l. rw (levels-same _ _ _ rows now same) at (rest .levels a l));
+          (omega (arith, larger-second d (levelsOf k tag x rows), rest .levels-before)) (λ a l. rw (part-levels-same _ _ _ rows now same) at (rest .levels a l));
       levels-before = omega (arith, larger-first d (levelsOf k tag x rows), rest .levels-before);
       attained =
           attained-more (λ p q. levelsOf (kindAt f p) (tagIn cells q) (valueIn cells q) rows) (λ p q. levelsOf (kindAt f p) (tagIn cells q) (valueIn cells q) now)
-          (λ p q. levels-same (kindAt f p) (tagIn cells q) (valueIn cells q) rows now same) m i j d e (rest .attained);
+          (λ p q. part-levels-same (kindAt f p) (tagIn cells q) (valueIn cells q) rows now same) m i j d e (rest .attained);
     }
 
 -- a line that is linked passed its test

@@ -1,7 +1,7 @@
 -- What is known of the tables while a body is read, and of the rows that stand when a line is added.
 -- Assumes nothing.
 use Prim.Native.Nat.{ℕ, _+_, _*_, _<_, _≤_}
-use native.Mathlib.Nat.{add-zero, zero-add}
+use native.Mathlib.Nat.{zero-add}
 use native.Mathlib.Omega.{arith}
 use mathlib.Core.Path.{_≡_, refl, ap, _∙_}
 use mathlib.Core.List.{List}
@@ -14,6 +14,7 @@ use Rattle.refs.specs.declared.Counts.{Counts}
 use Rattle.refs.specs.Refs.{nodes-at, fn-at, form-param, formIn, firstIn, countIn, levelsIn, userIn, tagIn, valueIn}
 use Rattle.body.specs.declared.State.{State}
 use Rattle.body.specs.Body.{limitOf, countOf, baseOf, counted, isDeep, rows-length, cells-length}
+use Rattle.well_formed.specs.Columns.{form-same, first-same, count-same, levels-same}
 use Rattle.well_formed.specs.Good.{behind, RowGood, RowsGood, Ordered, FnLast, Distinct}
 use Rattle.well_formed.specs.Counting.{counted-within, counted-fields, behind-within, behind-less, rows-apart}
 use Rattle.well_formed.specs.Zeros.{ZeroBehind}
@@ -47,23 +48,19 @@ pub record RowsKept (r : ℕ) (rows rows′ : List ℕ) : Type 0 where
 module _ (r : ℕ) (rows rows′ : List ℕ) (kept : RowsKept r rows rows′) (x : ℕ) (other : x ≡ r → ⊥) where
   -- the form of another row stays,
   pub kept-form : formIn rows′ x ≡ formIn rows x
-  unfolding formIn
-  kept-form = rw (add-zero (x * 5)) at (kept .columns x 0 (omega arith) other)
+  kept-form = form-same rows rows′ x (λ c h. kept .columns x c h other)
 
   -- its first field,
   pub kept-first : firstIn rows′ x ≡ firstIn rows x
-  unfolding firstIn
-  kept-first = kept .columns x 1 (omega arith) other
+  kept-first = first-same rows rows′ x (λ c h. kept .columns x c h other)
 
   -- the number of its fields,
   pub kept-count : countIn rows′ x ≡ countIn rows x
-  unfolding countIn
-  kept-count = kept .columns x 2 (omega arith) other
+  kept-count = count-same rows rows′ x (λ c h. kept .columns x c h other)
 
   -- and its levels
   pub kept-levels : levelsIn rows′ x ≡ levelsIn rows x
-  unfolding levelsIn
-  kept-levels = kept .columns x 3 (omega arith) other
+  kept-levels = levels-same rows rows′ x (λ c h. kept .columns x c h other)
 
 -- only a key before `fn` has a count
 pub counted-key : (n : Counts) (k i : ℕ) → i < countOf n k → k < key-fn
