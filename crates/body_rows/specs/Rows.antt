@@ -56,7 +56,7 @@ pub record WellFormedField (n : Counts) (look : Lookup) (k : ℕ) (c : Cell) : T
 unfoldable pub partBound : (ℕ → ℕ → ℕ) → ℕ → Cell → ℕ
 partBound bound k c = cond (isChild k (c .tag)) (bound key-node (c .value)) (cond (eqb k LowType) (cond (leb fixed-types (c .value)) (bound key-type (c .value - fixed-types)) 0) 0)
 
--- the row of the number i of the key k: it has a text, is of its key, its fields refer to what is there, and it has at most up k i levels
+-- the row of the number i of the key k: it has a text, is of its key, its fields refer to what is there, and it has at most bound k i levels
 pub record WellFormedRow (n : Counts) (look : Lookup) (bound : ℕ → ℕ → ℕ) (k i : ℕ) : Type 0 where
   pub writable : WritableRow (look k i)
   pub key : keyAt (look k i .form) ≡ k
@@ -75,8 +75,8 @@ unfoldable pub valuesOf : List Cell → List ℕ
 valuesOf [] = []
 valuesOf (c ∷ cs) = c .value ∷ valuesOf cs
 
--- a body that is accepted: counts within the limits, each row good, a child of one field only, no two type rows equal, K and D of types there, and a bound
--- on levels, which the one who makes the body chooses, within the limits
+-- a body whose text is accepted: counts within the limits, each row well-formed, a child of one field only, no two type rows equal, K and D of types there,
+-- and a bound on levels, which whoever makes the body chooses, within the limits
 pub record WellFormedRows (n : Counts) (look : Lookup) : Type 0 where
   pub bound : ℕ → ℕ → ℕ
   pub limited : (k : ℕ) → k < 5 → countOf n k ≤ limitOf k
