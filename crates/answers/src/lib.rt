@@ -1,4 +1,6 @@
 // The answer of a check and the tables that it hands back: what is lent, and how answer and tables follow from what reading and typing a file gave.
+#![tactic(auto)]
+
 ghost use Rattle.std.specs.Prelude.{◌≡◌, ◌+◌, ◌-◌, ◌≤◌, []};
 ghost use Rattle.answers.specs.Lent.{lent, emptied, errors_used, errors_end, memory_ended};
 ghost use Rattle.answers.specs.Lengths.{too_few};
@@ -23,7 +25,7 @@ pub const ERRORS: usize = 4096;
 pub const MEMORY: usize = 86946;
 
 // How many rows of each table are in use.
-#[derive(Drop)]
+#[derive(Clone, Copy)]
 pub struct Totals {
     pub declared: Counts,
     pub types: u16,
@@ -33,7 +35,7 @@ pub struct Totals {
 }
 
 // Document 01's answers: 0; 1; 2; 3 to 6 with the line; 10 to 13 with the node whose rule ran.
-#[derive(Drop)]
+#[derive(Clone, Copy)]
 pub enum Answer {
     Checked(Totals),
     TooLong,
@@ -43,7 +45,7 @@ pub enum Answer {
 }
 
 // What reading and typing a file gives.
-#[derive(Drop)]
+#[derive(Clone, Copy)]
 pub enum Walked {
     // The memory holds the state in which the rules end.
     Typed(Counts, Record),

@@ -1,5 +1,7 @@
 // Reads a body file line by line into two lent tables: `rows`, a row of five numbers for each line, and `cells`, one of three for
 // each field.
+#![tactic(auto)]
+
 ghost use Rattle.std.specs.Prelude.{◌≡◌, ◌+◌, ◌≤◌, ◌<◌, true, cond, length};
 ghost use Rattle.lex.specs.Text.{parts_from};
 ghost use Rattle.body.specs.Body.{first, in_order, limit_of, count_of, base_of, counted as counted·T, levels_over, deeper as deeper·T, is_deep, advance as advance·T, put_row, repeats as repeats·T, judged, step_of, is_ahead, first_ahead, finish_of, lines_from, zeros, body_of, held, stepped, ended, fields_in};
@@ -15,27 +17,27 @@ pub const ROWS: usize = 9605;
 pub const CELLS: usize = 94716;
 
 // Where the reading stands: the key of the line before, the rows and fields so far, and whether some line has too many levels.
-#[derive(Drop)]
+#[derive(Clone, Copy)]
 pub struct State {
     pub key: u8,
     pub counts: Counts,
     pub deep: bool,
 }
 
-#[derive(Drop)]
+#[derive(Clone, Copy)]
 pub enum Step {
     Next(State),
     Bad(Fault),
 }
 
 // What a file is: refused, with the line at fault, or a body.
-#[derive(Drop)]
+#[derive(Clone, Copy)]
 pub enum End {
     Good(Counts),
     Bad(Fault, usize),
 }
 
-#[derive(Drop)]
+#[derive(Clone, Copy)]
 pub enum Answer {
     Body(Counts),
     TooLong,

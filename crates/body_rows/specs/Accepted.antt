@@ -14,17 +14,14 @@ use Rattle.forms.specs.declared.Cell.{Cell}
 use Rattle.forms.specs.Form.{key_type, key_node, key_fn, forms, form_at, cell}
 use Rattle.refs.specs.declared.Counts.{Counts}
 use Rattle.refs.specs.Refs.{nodes_at, fixed_types, form_inst, form_fn, form_in, first_in, count_in, levels_in, name_in, tag_in, value_in, a_node, refers_to, is_child, is_expr, levels_of, same_values, is_same}
-use Rattle.body.specs.declared.Answer.TheVariants as answer
-use Rattle.body.specs.Body.{limit_of, count_of, base_of, body_of}
+use Rattle.body.specs.Body.{limit_of, count_of, base_of}
 use Rattle.well_formed.specs.Good.{behind, FieldGood, RowGood, kind_in, WellFormed}
 use Rattle.well_formed.specs.Parsed.{blank}
 use Rattle.well_formed.specs.Counting.{Within, behind_less}
 use Rattle.well_formed.specs.Reading.{counted_key}
 use Rattle.well_formed.specs.UsedOnce.{ChildAt, node_child_once, fn_child_once, node_child_not_fn}
-use Rattle.well_formed.specs.WellFormed.{read_well_formed}
 use Rattle.body_rows.specs.Text.{Row, key_at, Lookup, listed, keys_from, body_rows, cells_at, row_at, lookup_in, WritableRow, WritableRows}
 use Rattle.body_rows.specs.Steps.{cells_length_at, cells_at_lem}
-use Rattle.body_rows.specs.Tables.{rows_of_read}
 use Rattle.body_rows.specs.Rows.{cell_of, kind_of, Has, WellFormedField, part_bound, WellFormedRow, ChildOf, values_of, WellFormedRows}
 use Rattle.body_rows.specs.Linking.{form_kinds, stands_seen}
 
@@ -290,9 +287,3 @@ module _ (n : Counts) (rows cells : List ℕ) (w : WellFormed n rows cells) (wri
       limits (suc (suc (suc zero))) h = w.limited.binds
       limits (suc (suc (suc (suc zero)))) h = w.limited.nodes
       limits (suc (suc (suc (suc (suc k))))) h = absurd (omega arith)
-
--- ACCEPTED FILES ARE GOOD BODIES: the tables of a file that is read
-pub accepted_well_formed : (s rows cells : List ℕ) (n : Counts) → (body_of s rows cells).answer ≡ answer.Body n → WellFormedRows n (lookup_in (body_of s rows cells).rows (body_of s rows cells).cells)
-accepted_well_formed s rows cells n e =
-    tables_well_formed n (body_of s rows cells).rows (body_of s rows cells).cells (read_well_formed s rows cells n e)
-    (body_at n (lookup_in (body_of s rows cells).rows (body_of s rows cells).cells) (rows_of_read s rows cells n e).writable)

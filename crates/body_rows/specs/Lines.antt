@@ -1,7 +1,7 @@
 -- The text of a line: its value is read as the form and the cells that it was written for, and no other value is.
 -- Assumes nothing.
 use Rattle.std.specs.Prelude.{ℕ, zero, suc, ◌+◌, ◌/◌, ◌<◌, ◌≤◌, ◌≡◌, refl, List, [], ◌∷◌, ◌++◌, Bool, true, false, cond, ltb, eqb, length, get_or, take, drop}
-use Rattle.std.proofs.Common.{arith, sym, ap, ◌∙◌, length-append, take_all, ltb-true, ltb-false, eqb-true, eq-eqb, ne_eqb, le-leb, lt-ltb, le-ltb}
+use Rattle.std.proofs.Common.{arith, sym, ap, ◌∙◌, length-append, take_all, ltb-true, ltb-false, eqb-true, eq-eqb, ne_eqb, le-leb}
 use Rattle.std.proofs.lemmas.Bool.{false≢true, lt-leb}
 use Rattle.std.proofs.Math.Seq.{take-length, take-append_seam, drop-append-add}
 use Rattle.lex.specs.Text.{before, split, parts_from, fields_from, text, same}
@@ -12,13 +12,12 @@ use Rattle.forms.specs.declared.Read.{Read}
 use Rattle.forms.specs.declared.Read.TheVariants.{Is, Bad}
 use Rattle.forms.specs.declared.Line.TheVariants as line
 use Rattle.forms.specs.declared.Fault.TheVariants as fault
-use Rattle.forms.specs.Form.{key_type, key_def, key_inst, key_bind, key_node, key_fn, no_key, key_of, LineForm, forms, no_form, worded, fits, index_of, form_of, form_at, kind_at, read_of, Cells, refused, cells, prepend, cells_from, wrong, parsed, start_of, count_of, with_cells, counted, parse_line}
+use Rattle.forms.specs.Form.{key_type, key_def, key_inst, key_bind, key_node, key_fn, no_key, key_of, LineForm, forms, no_form, worded, fits, index_of, form_of, kind_at, Cells, refused, cells, prepend, parsed, start_of, count_of, with_cells, counted}
 use Rattle.forms.specs.Words.{both, form_fits, words_apart}
 use Rattle.well_formed.specs.Counting.{each, each_at}
-use Rattle.well_formed.specs.Parsed.{ParsedGood, parsed_good}
-use Rattle.body_rows.specs.Text.{field_text, join, Row, row, key_at, word_at, field_texts, lead, value_text, key_text, line_text, WritableFrom, WritableRow}
+use Rattle.body_rows.specs.Text.{field_text, join, Row, row, key_at, word_at, field_texts, lead, value_text, key_text, line_text, WritableRow}
 use Rattle.body_rows.specs.Joined.{Over, over-append, over_less, Without, WithoutAll, over_without, before_part, before_all, before_parts, split_some, join-split, split-join}
-use Rattle.body_rows.specs.Fields.{field_read, field_only, field_over, field_filled}
+use Rattle.body_rows.specs.Fields.{field_over}
 
 -- ── the table of forms ──
 
@@ -38,7 +37,7 @@ over_true n (x ∷ s) e = by (ltb n x) refl e (over_true n s)
     by false p e ih = absurd (false≢true e)
 
 -- the words of forms are letters
-word_over : (f : ℕ) → f < 30 → Over 61 (word_at f)
+pub word_over : (f : ℕ) → f < 30 → Over 61 (word_at f)
 unfolding each forms word_at over_test
 word_over f h = over_true 61 (word_at f) (each_at 30 (λ (x : ℕ). over_test 61 (word_at x)) f refl h)
 
@@ -48,7 +47,7 @@ unfolding each forms key_at
 key_low f h = ltb-true (key_at f) 6 (each_at 30 (λ (x : ℕ). ltb (key_at x) 6) f refl h)
 
 -- where the fields of a value begin, by the word of its form
-unfoldable start_for : List ℕ → List ℕ → ℕ
+unfoldable pub start_for : List ℕ → List ℕ → ℕ
 start_for [] v = cond (eqb (length v) 0) 1 0
 start_for (x ∷ u) v = before 44 v + 1
 
@@ -97,18 +96,18 @@ start_by k (x ∷ u) v = by (eqb k key_type) (eqb k key_node)
     by false false e = absurd (false≢true e)
 
 -- where the fields of a form's value begin
-start_is : (f : ℕ) (v : List ℕ) → f < 30 → start_of (key_at f) (length v) (before 44 v) ≡ start_for (word_at f) v
+pub start_is : (f : ℕ) (v : List ℕ) → f < 30 → start_of (key_at f) (length v) (before 44 v) ≡ start_for (word_at f) v
 start_is f v h = start_by (key_at f) (word_at f) v (word_key_lem f h)
 
 -- ── words and fields of a value ──
 
 -- the first part is not empty, where there is one
-unfoldable Filled : List (List ℕ) → Type 0
+unfoldable pub Filled : List (List ℕ) → Type 0
 Filled [] = Unit {0}
 Filled (s ∷ ss) = 0 < length s
 
 -- the word of a value is the form's
-lead_word : (u : List ℕ) (ss : List (List ℕ)) → Without 44 u
+pub lead_word : (u : List ℕ) (ss : List (List ℕ)) → Without 44 u
     → worded u (take (before 44 (join 44 (lead u ss))) (join 44 (lead u ss))) ≡ true
 unfolding worded lead join
 lead_word [] ss p = refl
@@ -122,7 +121,7 @@ join_filled s [] h = h
 join_filled s (t ∷ ts) h = omega (arith, length-append s (44 ∷ join 44 (t ∷ ts)))
 
 -- the fields of a value are those that it was written with
-lead_fields : (u : List ℕ) (ss : List (List ℕ)) → Without 44 u → WithoutAll 44 ss → Filled ss
+pub lead_fields : (u : List ℕ) (ss : List (List ℕ)) → Without 44 u → WithoutAll 44 ss → Filled ss
     → fields_from (start_for u (join 44 (lead u ss))) (join 44 (lead u ss)) ≡ ss
 unfolding start_for lead parts_from WithoutAll Filled join
 lead_fields [] [] p q h = refl
@@ -144,7 +143,7 @@ join_lead u [] h = absurd (omega arith)
 join_lead u (s ∷ ss) h = refl
 
 -- a value with the word u and the fields ss is what they are written as
-lead_back : (u v : List ℕ) (ss : List (List ℕ)) → worded u (take (before 44 v) v) ≡ true → fields_from (start_for u v) v ≡ ss → join 44 (lead u ss) ≡ v
+pub lead_back : (u v : List ℕ) (ss : List (List ℕ)) → worded u (take (before 44 v) v) ≡ true → fields_from (start_for u v) v ≡ ss → join 44 (lead u ss) ≡ v
 unfolding worded lead start_for parts_from join
 lead_back [] [] ss p q = rw (← q)
 lead_back [] (y ∷ v) ss p q =
@@ -170,39 +169,17 @@ lead_back (x ∷ u) v ss p q = by (ltb (before 44 v) (length v)) refl
 -- ── cells ──
 
 -- the texts of cells are fields of their bytes
-texts_without : (f : Form) (i : ℕ) (l : List Cell) → WithoutAll 44 (field_texts f i l)
+pub texts_without : (f : Form) (i : ℕ) (l : List Cell) → WithoutAll 44 (field_texts f i l)
 unfolding WithoutAll field_texts
 texts_without f i [] = tt
 texts_without f i (x ∷ l) = (over_without 44 44 (field_text (kind_at f i / 16) x) (omega arith) (field_over (kind_at f i / 16) x), texts_without f (i + 1) l)
 
--- none of them is empty
-texts_filled : (f : Form) (i : ℕ) (l : List Cell) → WritableFrom f i l → Filled (field_texts f i l)
-unfolding Filled field_texts WritableFrom
-texts_filled f i [] w = tt
-texts_filled f i (x ∷ l) w = field_filled (kind_at f i / 16) x w.0
-
--- the cells of their texts
-cells_read : (f : Form) (i : ℕ) (l : List Cell) → WritableFrom f i l → cells_from f i (field_texts f i l) ≡ cells l
-unfolding cells_from field_texts WritableFrom
-cells_read f i [] w = refl
-cells_read f i (x ∷ l) w = rw (field_read (kind_at f i / 16) x w.0, cells_read f (i + 1) l w.1)
-
 -- a cell before others, where all were read
-prepend_only : (r : Read) (q : Cells) (l : List Cell) → prepend r q ≡ cells l
+pub prepend_only : (r : Read) (q : Cells) (l : List Cell) → prepend r q ≡ cells l
     → (x : Cell) × (t : List Cell) × (r ≡ Is x) × (q ≡ cells t) × (x ∷ t ≡ l)
 prepend_only Bad q l e = let z : ◌≡◌ {A = ℕ} 0 1 = cc in absurd (omega arith)
 prepend_only (Is x) (refused l') l e = let z : ◌≡◌ {A = ℕ} 0 1 = cc in absurd (omega arith)
 prepend_only (Is x) (cells t) l e = (x, t, refl, refl, cc)
-
--- fields that read as cells are the texts of those cells
-cells_only : (f : Form) (i : ℕ) (ss : List (List ℕ)) (l : List Cell) → cells_from f i ss ≡ cells l → WritableFrom f i l × (field_texts f i l ≡ ss)
-unfolding cells_from field_texts WritableFrom
-cells_only f i [] l e = let q : [] ≡ l = cc in rw (← q) (tt, refl)
-cells_only f i (s ∷ ss) l e =
-    let p = prepend_only (read_of (kind_at f i) s) (cells_from f (i + 1) ss) l e in
-    let a = field_only (kind_at f i / 16) s p.0 p.2 in
-    let b = cells_only f (i + 1) ss p.1 p.3 in
-    rw (← p.4) ((a.0, b.0), rw (a.1, b.1))
 
 -- ── a value ──
 
@@ -218,7 +195,7 @@ index_low k w (f ∷ fs) (suc i) h p = by (fits k w f) (index_low k w fs i (omeg
     by false h = omega arith
 
 -- the form of a value whose word is a form's
-form_is : (f : ℕ) (v : List ℕ) → f < 30 → worded (word_at f) (take (before 44 v) v) ≡ true → form_of (key_at f) v ≡ f
+pub form_is : (f : ℕ) (v : List ℕ) → f < 30 → worded (word_at f) (take (before 44 v) v) ≡ true → form_of (key_at f) v ≡ f
 unfolding fits key_at word_at form_of forms
 form_is f v h p =
     words_apart (key_at f) (take (before 44 v) v) (form_of (key_at f) v) f low h (form_fits (key_at f) v low) own
@@ -229,34 +206,8 @@ form_is f v h p =
     low : form_of (key_at f) v < 30
     low = index_low (key_at f) (take (before 44 v) v) forms f h own
 
--- a row's value is read as the row
-pub value_read : (r : Row) → WritableRow r → parse_line (key_at r.form) (value_text r) ≡ parsed r.form r.cells
-unfolding parse_line value_text count_of
-value_read r w =
-    rw (
-      form_is f v w.form (lead_word (word_at f) ss words),
-      lt-ltb f 30 w.form,
-      start_is f v w.form,
-      lead_fields (word_at f) ss words (texts_without (form_at f) 0 r.cells) (texts_filled (form_at f) 0 r.cells w.fields),
-      cells_read (form_at f) 0 r.cells w.fields,
-      le-ltb (length r.cells) (form_at f).4 w.least,
-      le-ltb (form_at f).5 (length r.cells) w.most,
-    )
-  where
-    f : ℕ
-    f = r.form
-
-    ss : List (List ℕ)
-    ss = field_texts (form_at f) 0 r.cells
-
-    v : List ℕ
-    v = join 44 (lead (word_at f) ss)
-
-    words : Without 44 (word_at f)
-    words = over_without 61 44 (word_at f) (omega arith) (word_over f w.form)
-
 -- the cells of a value that has as many as the form
-counted_only : (i : ℕ) (g : Form) (c : Cells) (f : ℕ) (l : List Cell) → counted i g c ≡ parsed f l → (c ≡ cells l) × (i ≡ f)
+pub counted_only : (i : ℕ) (g : Form) (c : Cells) (f : ℕ) (l : List Cell) → counted i g c ≡ parsed f l → (c ≡ cells l) × (i ≡ f)
 unfolding count_of
 counted_only i g (refused l') f l e = let z : ◌≡◌ {A = ℕ} 0 1 = cc in absurd (omega arith)
 counted_only i g (cells t) f l e = by (ltb (length t) g.4) (ltb g.5 (length t)) e
@@ -267,7 +218,7 @@ counted_only i g (cells t) f l e = by (ltb (length t) g.4) (ltb g.5 (length t)) 
     by false false e = let q : t ≡ l = cc in (ap cells q, cc)
 
 -- the form that a value fits has its word
-fits_word : (k : ℕ) (w : List ℕ) (f : ℕ) → fits k w (get_or forms f no_form) ≡ true → worded (word_at f) w ≡ true
+pub fits_word : (k : ℕ) (w : List ℕ) (f : ℕ) → fits k w (get_or forms f no_form) ≡ true → worded (word_at f) w ≡ true
 unfolding fits word_at
 fits_word k w f p = (both (eqb (get_or forms f no_form).key k) (worded (get_or forms f no_form).word w) p).1
 
@@ -277,43 +228,10 @@ pub record ReadAs (k : ℕ) (v : List ℕ) (r : Row) : Type 0 where
   pub key : key_at r.form ≡ k
   pub value : value_text r ≡ v
 
--- a value that reads as a row is what the row is written as
-pub value_only : (k : ℕ) (v : List ℕ) (f : ℕ) (l : List Cell) → parse_line k v ≡ parsed f l → ReadAs k v (row f l)
-unfolding parse_line key_at value_text
-value_only k v f l e = by (ltb (form_of k v) 30) refl e
-  where
-    good : ParsedGood k v f l
-    good = parsed_good k v f l e
-
-    own : key_at f ≡ k
-    own = good.key
-
-    made : form_of k v ≡ f → form_of k v < 30 → cells_from (form_at f) 0 (fields_from (start_of k (length v) (before 44 v)) v) ≡ cells l → ReadAs k v (row f l)
-    made q h c =
-        let w : worded (word_at f) (take (before 44 v) v) ≡ true = fits_word k (take (before 44 v) v) f (rw q at (form_fits k v h)) in
-        let s : start_of k (length v) (before 44 v) ≡ start_for (word_at f) v = ap (λ (j : ℕ). start_of j (length v) (before 44 v)) (sym own) ∙ start_is f v good.form in
-        let r = cells_only (form_at f) 0 (fields_from (start_of k (length v) (before 44 v)) v) l c in
-        record {
-          writable = record { form = good.form; least = good.least; most = good.most; fields = r.0 };
-          key = own;
-          value = text_back (rw s at r.1) w;
-        }
-      where
-        text_back : field_texts (form_at f) 0 l ≡ fields_from (start_for (word_at f) v) v → worded (word_at f) (take (before 44 v) v) ≡ true → value_text (row f l) ≡ v
-        text_back q w = lead_back (word_at f) v (field_texts (form_at f) 0 l) w (sym q)
-
-    by : (b : Bool) → ltb (form_of k v) 30 ≡ b
-        → cond b (counted (form_of k v) (form_at (form_of k v)) (cells_from (form_at (form_of k v)) 0 (fields_from (start_of k (length v) (before 44 v)) v))) (wrong fault.Form []) ≡ parsed f l
-        → ReadAs k v (row f l)
-    by true p e =
-        let c = counted_only (form_of k v) (form_at (form_of k v)) (cells_from (form_at (form_of k v)) 0 (fields_from (start_of k (length v) (before 44 v)) v)) f l e in
-        made c.1 (ltb-true (form_of k v) 30 p) (rw c.1 at c.0)
-    by false p e = let z : ◌≡◌ {A = ℕ} 0 1 = cc in absurd (omega arith)
-
 -- ── a line ──
 
 -- the letters of keys are above the equals sign
-key_over : (k : ℕ) → k < 6 → Over 61 (key_text k)
+pub key_over : (k : ℕ) → k < 6 → Over 61 (key_text k)
 unfolding each key_text over_test
 key_over k h = over_true 61 (key_text k) (each_at 6 (λ (x : ℕ). over_test 61 (key_text x)) k refl h)
 
@@ -346,35 +264,25 @@ unfolding line_text
 line_sign r h = before_part 61 (key_text (key_at r.form)) (value_text r) (over_without 61 61 (key_text (key_at r.form)) (omega arith) (key_over (key_at r.form) (key_low r.form h)))
 
 -- each part has only bytes above n
-unfoldable OverAll : ℕ → List (List ℕ) → Type 0
+unfoldable pub OverAll : ℕ → List (List ℕ) → Type 0
 OverAll n [] = Unit {0}
 OverAll n (s ∷ ss) = Over n s × OverAll n ss
 
 -- no line has a line feed: its bytes are above 43
-over_join : (ss : List (List ℕ)) → (n : ℕ) → n < 44 → OverAll n ss → Over n (join 44 ss)
+pub over_join : (ss : List (List ℕ)) → (n : ℕ) → n < 44 → OverAll n ss → Over n (join 44 ss)
 unfolding join OverAll Over
 over_join [] n h p = tt
 over_join (s ∷ []) n h p = p.0
 over_join (s ∷ t ∷ ts) n h p = over-append n s (44 ∷ join 44 (t ∷ ts)) p.0 (h, over_join (t ∷ ts) n h p.1)
 
 -- nor has a field
-texts_over : (f : Form) (i : ℕ) (l : List Cell) → OverAll 43 (field_texts f i l)
+pub texts_over : (f : Form) (i : ℕ) (l : List Cell) → OverAll 43 (field_texts f i l)
 unfolding OverAll field_texts
 texts_over f i [] = tt
 texts_over f i (x ∷ l) = (over_less 43 44 (field_text (kind_at f i / 16) x) (omega arith) (field_over (kind_at f i / 16) x), texts_over f (i + 1) l)
 
 -- nor has a word before them
-lead_over : (u : List ℕ) (ss : List (List ℕ)) → Over 43 u → OverAll 43 ss → OverAll 43 (lead u ss)
+pub lead_over : (u : List ℕ) (ss : List (List ℕ)) → Over 43 u → OverAll 43 ss → OverAll 43 (lead u ss)
 unfolding lead OverAll
 lead_over [] ss p q = q
 lead_over (x ∷ u) ss p q = (p, q)
-
--- so none has a line
-pub line_over : (r : Row) → r.form < 30 → Over 43 (line_text r)
-unfolding line_text value_text Over
-line_over r h =
-    over-append 43 (key_text (key_at r.form)) (61 ∷ value_text r) (over_less 43 61 (key_text (key_at r.form)) (omega arith) (key_over (key_at r.form) (key_low r.form h))) (
-      omega arith,
-      over_join (lead (word_at r.form) (field_texts (form_at r.form) 0 r.cells)) 43 (omega arith)
-          (lead_over (word_at r.form) (field_texts (form_at r.form) 0 r.cells) (over_less 43 61 (word_at r.form) (omega arith) (word_over r.form h)) (texts_over (form_at r.form) 0 r.cells)),
-    )

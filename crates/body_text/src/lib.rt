@@ -1,5 +1,7 @@
 // Turns a body that stands in one line of text into its bytes: `/` is a line feed, `\hh` a byte, `{N:T}` and `{N+S:T}` a repetition.
 // The comment lines at the top of the program `replay`'s `stdin` say it in full.
+#![tactic(auto)]
+
 ghost use Rattle.std.specs.Prelude.{◌≡◌, ◌+◌, ◌-◌, ◌≤◌, length, drop};
 ghost use Rattle.lex.specs.Text.{before};
 

@@ -1,4 +1,6 @@
 // The text of a body's tables into a lent output: `put_row` writes the line of one row by the table of forms, `write_body` a whole body.
+#![tactic(auto)]
+
 ghost use Rattle.std.specs.Prelude.{◌≡◌, ◌++◌, ◌∷◌, [], ◌+◌, ◌≤◌, ◌<◌};
 ghost use Rattle.forms.specs.Form.{cell as cell·T};
 ghost use Rattle.refs.specs.Refs.{fn_at};

@@ -1,24 +1,13 @@
 -- The errors with CAUSE 1 of a well-formed body are those of its equations that failed, one to one and in order. Assumes nothing.
 use Rattle.std.specs.Prelude.{◌≡◌, refl, List, [], ◌∷◌, Bool, true, false, cond, ℕ, ◌<◌, eqb, length}
-use Rattle.std.proofs.Common.{sym, ap, subst, ◌∙◌, lt-ltb}
+use Rattle.std.proofs.Common.{ap, lt-ltb}
 use Rattle.std.proofs.Math.Option.{Option, none, some}
 use Rattle.theory.specs.Rules.{Shape, Out, success, mismatch, refused12, refused13, dry, Res}
-use Rattle.theory.specs.Program.{Equation, done, refuse, draw, intern, equate, emit, mark, read, write, clip, first_equal, sane, drawn, appended, emitted, written, refused, marking, raised, pooled, intern_if, interned, solved, react, run}
-use Rattle.theory.specs.Start.{start}
-use Rattle.refs.specs.declared.Counts.{Counts}
+use Rattle.theory.specs.Program.{Equation, clip, first_equal, sane, appended, emitted, refused, raised, pooled, intern_if, interned, react, run}
 use Rattle.record.specs.declared.TypingError.{TypingError}
-use Rattle.record.specs.Steps.{State, Walk}
-use Rattle.resolve.specs.Resolve.{body_with}
-use Rattle.resolve.specs.Body.{last_state}
-use Rattle.well_formed.specs.Good.{WellFormed}
-use Rattle.nodes.specs.Nodes.{fn_line}
-use Rattle.record.specs.Own.{blank}
-use Rattle.bounds.specs.Declared.{behind_types, body_behind}
-use Rattle.bounds.specs.Confined.{Names, IsConfined, Any, any_numbers, any_state, any_known}
-use Rattle.bounds.specs.ConfinedWalk.{behind_types_confined}
+use Rattle.record.specs.Steps.{State}
+use Rattle.bounds.specs.Confined.{Names}
 use Rattle.bounds.specs.Nesting.{Behind}
-use Rattle.bounds.specs.Raised.{interned_log}
-use Rattle.bounds.specs.InRows.{InRows, declared_state, body_in_rows}
 
 -- ── definitions ──
 
@@ -62,7 +51,7 @@ Caused es l = Pairwise ErrorOf (those is_caused es) (those mismatched l)
 
 module _ (es : List TypingError) (l : List Equation) (h : Caused es l) where
   -- an error that no equation raised
-  own_more : (e : TypingError) → is_caused e ≡ false → Caused (e ∷ es) l
+  pub own_more : (e : TypingError) → is_caused e ≡ false → Caused (e ∷ es) l
   own_more e p = rw p h
 
   -- an equation that did not fail
@@ -76,7 +65,7 @@ module _ (es : List TypingError) (l : List Equation) (h : Caused es l) where
 -- ── a run ──
 
 -- making a type emits no error
-interned_errs : (t : Shape) (s : State) → (interned t s).1.errs ≡ s.errs
+pub interned_errs : (t : Shape) (s : State) → (interned t s).1.errs ≡ s.errs
 unfolding interned appended
 interned_errs t s = by (sane (length s.rows) t)
   where
@@ -89,7 +78,7 @@ interned_errs t s = by (sane (length s.rows) t)
     by false = refl
 
 -- a row's number is not clipped
-clip_row : (n x : ℕ) → x < n → clip n x ≡ x
+pub clip_row : (n x : ℕ) → x < n → clip n x ≡ x
 clip_row n x h = rw (lt-ltb x n h)
 
 -- the equation of a and b in the rule of the node n, with the result r
@@ -97,7 +86,7 @@ abbrev logged : ℕ → ℕ → ℕ → Res → Equation
 logged n a b r = record { node = n; expected = a; got = b; answer = r.0 }
 
 -- what follows it
-react_caused : {A : Type 0} (n a b : ℕ) (r : Res) (o : Out) → r.0 ≡ o → (e : Out → TypingError) (g : Bool → State → Option A × State) (K : Bool → State → Type 0) (s : State) → Names a b (e mismatch) → Caused s.errs s.log
+pub react_caused : {A : Type 0} (n a b : ℕ) (r : Res) (o : Out) → r.0 ≡ o → (e : Out → TypingError) (g : Bool → State → Option A × State) (K : Bool → State → Type 0) (s : State) → Names a b (e mismatch) → Caused s.errs s.log
     → Behind o e K (raised n a b r s) → ((c : Bool) (t : State) → K c t → Caused t.errs t.log → Caused (g c t).1.errs (g c t).1.log)
     → let t = (react n o e g (raised n a b r s)).1 in Caused t.errs t.log
 unfolding raised emitted refused
@@ -108,27 +97,3 @@ react_caused n a b r mismatch q e g K s p h k again =
 react_caused n a b r refused12 q e g K s p h k again = met_more s.errs s.log h (logged n a b r) (ap is_mismatch q)
 react_caused n a b r refused13 q e g K s p h k again = met_more s.errs s.log h (logged n a b r) (ap is_mismatch q)
 react_caused n a b r dry q e g K s p h k again = met_more s.errs s.log h (logged n a b r) (ap is_mismatch q)
-
--- a program whose equations are of rows and whose errors are such as Confined says
-run_caused : {A : Type 0} (N : Counts) (p : Walk A) → IsConfined N any_numbers Any p → (s : State) → InRows p s → Caused s.errs s.log → Caused (run p s).1.errs (run p s).1.log
-unfolding run IsConfined InRows drawn emitted written refused marking
-run_caused N (done a) c s i h = h
-run_caused N (refuse k n) c s i h = h
-run_caused N (draw k o f) c s i h = run_caused N (f (length s.rows)) (c.1 (length s.rows) tt) (drawn k o s) i h
-run_caused N (intern t f) c s i h = run_caused N (f (interned t s).0) (c.3 (interned t s).0 tt) (interned t s).1 i.1 (rw (interned_errs t s, interned_log t s) h)
-run_caused N (equate n x y e f) c s i h =
-    let a = clip (length s.rows) x in
-    let b = clip (length s.rows) y in
-    let p : Names a b (e mismatch) = record { cause = c.5.cause; expected = c.5.expected ∙ sym (clip_row (length s.rows) x i.0); got = c.5.got ∙ sym (clip_row (length s.rows) y i.1) } in
-    react_caused n a b (solved a b s) (solved a b s).0 refl e (λ d t. run (f d) t) (λ d t. InRows (f d) t) s p h i.2 (λ d t. run_caused N (f d) (c.4 d) t)
-run_caused N (emit e p) c s i h = run_caused N p c.0 (emitted e s) i (own_more s.errs s.log h e (ap (λ (k : ℕ). eqb k 1) c.1))
-run_caused N (mark v p) c s i h = run_caused N p c (marking v s) i h
-run_caused N (read f) c s i h = run_caused N (f s) (c s (any_state s)) s i.1 h
-run_caused N (write o p) c s i h = run_caused N p c.1 (written o s) i h
-
--- so a body
-pub body_caused : (n : Counts) (rows cells : List ℕ) → WellFormed n rows cells → let t = last_state n rows cells in Caused t.errs t.log
-unfolding start
-body_caused n rows cells w =
-    subst (λ (r : Option (Unit {0}) × State). Caused r.1.errs r.1.log) (sym (body_behind n rows cells w (blank (fn_line rows cells).output.0)))
-    (run_caused n (behind_types n rows cells) (behind_types_confined n rows cells w (any_known n (body_with n rows cells))).by (declared_state n rows cells) (body_in_rows n rows cells w) tt)

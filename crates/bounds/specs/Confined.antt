@@ -3,9 +3,8 @@
 use Rattle.std.specs.Prelude.{◌≡◌, List, [], ◌∷◌, map, Bool, true, false, cond, eqb, ltb, leb, length, get_or, set}
 use Rattle.std.proofs.Math.Path.{refl}
 use Rattle.std.proofs.Math.Option.{Option, none, some}
-use Prim.Native.Nat.{ℕ, suc, zero, ◌+◌, ◌-◌, ◌<◌, ◌≤◌}
+use Prim.Native.Nat.{ℕ, suc, zero, ◌+◌, ◌<◌, ◌≤◌}
 use Rattle.std.proofs.Common.{arith}
-use borrow.Author.Tests.{ltb-true}
 use Rattle.theory.specs.Rules.{Base, bool, nil, float, double, uint, int, inst, Shape, base, var, arr, ref, fn, fun, lam, err, div, Kind, mismatch, regular, integer, floating, as_var, head, error_head, row, bound}
 use Rattle.theory.specs.Program.{done, refuse, draw, intern, equate, emit, mark, read, write, ◌>>=◌}
 use Rattle.theory.specs.Basics.{All}
@@ -15,15 +14,13 @@ use Rattle.nodes.specs.declared.MaybeType.TheVariants as type
 use Rattle.nodes.specs.declared.MaybeDef.{MaybeDef}
 use Rattle.nodes.specs.declared.MaybeDef.TheVariants as def
 use Rattle.nodes.specs.declared.Items.{Items}
-use Rattle.nodes.specs.declared.Res.{Res}
-use Rattle.nodes.specs.declared.Res.TheVariants as res
 use Rattle.nodes.specs.declared.BinOp.{BinOp}
 use Rattle.nodes.specs.declared.BinOp.TheVariants as bin
 use Rattle.nodes.specs.declared.UnOp.{UnOp}
 use Rattle.nodes.specs.declared.UnOp.TheVariants as un
 use Rattle.nodes.specs.declared.Callee.{Callee}
 use Rattle.nodes.specs.declared.Callee.TheVariants as callee
-use Rattle.nodes.specs.Nodes.{Body, item, declared_at, items_of, output_of, def_inputs, shape_inputs, inputs_of, nth, field_type, as_arr, method, is_partly_failed, segment_name, segment_res}
+use Rattle.nodes.specs.Nodes.{Body, item, declared_at, items_of, output_of, def_inputs, shape_inputs, inputs_of, nth, field_type, as_arr, method}
 use Rattle.record.specs.declared.Extra.{Extra}
 use Rattle.record.specs.declared.ErrorKind.{ErrorKind}
 use Rattle.record.specs.declared.ErrorKind.TheVariants as error·K
@@ -32,7 +29,7 @@ use Rattle.record.specs.declared.Span.{Span}
 use Rattle.record.specs.Own.{Own, typed, marked, resolved}
 use Rattle.record.specs.Steps.{State, Walk, Step, or_nil, change, set_node_type, set_extra, set_final, node_type_lem, shape_of_lem, all_types, output, drawn_by, new_infer_var, array_of, ref_to_lem, fn_def_lem, instance, param_type, make_lambda, mark_var, error, equation, for_each}
 use Rattle.rules.specs.Rules as rule
-use Rattle.bounds.specs.Refers.{DefBy, TypeBy, type_more, Declared, ResLower, ItemsLower, SegmentsLower, Refers}
+use Rattle.bounds.specs.Refers.{DefBy, TypeBy, type_more, Declared, ItemsLower, Refers}
 
 -- ── types, definitions and instances ──
 
@@ -269,12 +266,12 @@ module _ {N : Counts} {W : Numbers} where
     refuse_11_confined n h = refuse_confined (record { least = omega arith; most = omega arith; lower = h }) (omega arith)
 
     -- the one that is chosen of two
-    cond_confined : (b : Bool) {p q : Walk A} → Confined N W Q p → Confined N W Q q → Confined N W Q (cond b p q)
+    pub cond_confined : (b : Bool) {p q : Walk A} → Confined N W Q p → Confined N W Q q → Confined N W Q (cond b p q)
     cond_confined true P K = P
     cond_confined false P K = K
 
     -- the same, by the test
-    test_confined : (b : Bool) {p q : Walk A} → (b ≡ true → Confined N W Q p) → Confined N W Q q → Confined N W Q (cond b p q)
+    pub test_confined : (b : Bool) {p q : Walk A} → (b ≡ true → Confined N W Q p) → Confined N W Q q → Confined N W Q (cond b p q)
     test_confined true P K = P refl
     test_confined false P K = K
 
@@ -294,7 +291,7 @@ module _ {N : Counts} {W : Numbers} where
   set_node_type_confined n t v = change_confined _ (λ o k. record { output = k.output; raw = set_each (Maybe W.type) o.raw n (some t) v k.raw })
 
   -- EXTRA of a node
-  set_extra_confined : (n : ℕ) (e : Extra) → Confined N W Any (set_extra n e)
+  pub set_extra_confined : (n : ℕ) (e : Extra) → Confined N W Any (set_extra n e)
   unfolding set_extra marked
   set_extra_confined n e = change_confined _ (λ o k. record { output = k.output; raw = k.raw })
 
@@ -314,7 +311,7 @@ module _ {N : Counts} {W : Numbers} where
   shape_of_confined x = record { by = λ s k. k.rows x }
 
   -- all types
-  all_types_confined : Confined N W (λ ts. (x : ℕ) → Parts W (row ts x)) all_types
+  pub all_types_confined : Confined N W (λ ts. (x : ℕ) → Parts W (row ts x)) all_types
   unfolding IsConfined all_types
   all_types_confined = record { by = λ s k. k.rows }
 
@@ -370,12 +367,12 @@ module _ {N : Counts} {W : Numbers} where
     declared_known = type_more (Declared N) W.type (λ x h. K.type x h)
 
     -- the type of a definition
-    fn_def_confined : (d : ℕ) → W.def d → Confined N W W.type (fn_def_lem d)
+    pub fn_def_confined : (d : ℕ) → W.def d → Confined N W W.type (fn_def_lem d)
     unfolding fn_def_lem
     fn_def_confined d h = cond_confined (ltb d 256) (intern_confined (fn d) refl refl h) (done_confined 0 (K.type 0 (omega arith)))
 
     -- an instance
-    instance_confined : (k : ℕ) → W.inst k → Confined N W W.type (instance k)
+    pub instance_confined : (k : ℕ) → W.inst k → Confined N W W.type (instance k)
     unfolding instance
     instance_confined k h = cond_confined (ltb k 64) (intern_confined (base (inst k)) refl refl h) (done_confined 0 (K.type 0 (omega arith)))
 
@@ -500,27 +497,12 @@ module _ {N : Counts} {W : Numbers} where
     let_with_init_confined n type.Absent y h v u = local_type_confined n y y u
 
     -- a local
-    local_or_refuse_confined : (n : ℕ) (o : Option ℕ) → n < N.nodes → Maybe W.type o → Confined N W W.type (rule.local_or_refuse n o)
+    pub local_or_refuse_confined : (n : ℕ) (o : Option ℕ) → n < N.nodes → Maybe W.type o → Confined N W W.type (rule.local_or_refuse n o)
     local_or_refuse_confined n none h v = refuse_11_confined n h
     local_or_refuse_confined n (some t) h v = done_confined t v
 
-    -- RES
-    type_res_confined : (n : ℕ) (r : Res) → n < N.nodes → ResLower N r → Confined N W W.type (rule.type_res n r)
-    unfolding rule.type_res
-    type_res_confined n (res.Local l) h k = then_confined _ (node_type_confined l.0) (λ t q. local_or_refuse_confined n t h q)
-    type_res_confined n (res.Fn d) h k = fn_def_confined d.0 (K.def d.0 k)
-    type_res_confined n (res.Ctor d) h k = fn_def_confined d.0 (K.def d.0 k)
-    type_res_confined n (res.Inst i) h k = instance_confined i.0 (K.inst i.0 k)
-    type_res_confined n res.Error h k = done_confined _ (K.type 12 (omega arith))
-    type_res_confined n res.Other h k = refuse_10_confined n h
-
-    -- a path without a failed segment
-    whole_path_confined : (n : ℕ) (r : Res) → n < N.nodes → ResLower N r → Confined N W W.type (rule.whole_path n r)
-    unfolding rule.whole_path
-    whole_path_confined n r h k = then_confined _ (type_res_confined n r h k) (λ t q. then_confined _ (set_extra_confined n _) (λ u z. done_confined t q))
-
     -- the method of a path
-    path_method_confined : (n x name : ℕ) (d : MaybeDef) → DefBy (λ i. i < N.defs) d → Confined N W W.type (rule.path_method n x name d)
+    pub path_method_confined : (n x name : ℕ) (d : MaybeDef) → DefBy (λ i. i < N.defs) d → Confined N W W.type (rule.path_method n x name d)
     path_method_confined n x name (def.Of d) h = then_confined _ (set_extra_confined n _) (λ u q. fn_def_confined d.0 (K.def d.0 h))
     path_method_confined n x name def.Absent h = then_confined _ (set_extra_confined n _) (λ u q. error_then _ _ _ _ _ (K.type 12 (omega arith)))
 
@@ -631,28 +613,6 @@ module _ {N : Counts} {W : Numbers} where
       unfolding rule.method_of rule.sought
       method_of_confined n e x name =
           cond_confined (eqb x rule.err_type) (done_confined none tt) (then_confined _ all_types_confined (λ ts k. method_or_error_confined n e x name (method ts b x name) (R.methods ts x name)))
-
-      -- a path of an instance
-      path_of_confined : (n k : ℕ) (t : Items) → n < N.nodes → SegmentsLower N b.cells t → 0 < t.count → Confined N W W.type (rule.path_of b n k t)
-      unfolding rule.path_of rule.path_found
-      path_of_confined n k t h S l =
-          then_confined _ (type_res_confined n (segment_res b.cells t (t.count - 1)) h (S (t.count - 1) (omega arith)))
-          (λ x q. then_confined _ all_types_confined (λ ts z. path_method_confined n x _ (method ts b x (segment_name b.cells t k)) (R.methods ts x _)))
-
-      -- a partly failed path
-      failed_path_confined : (n : ℕ) (r : Res) (k : ℕ) (t : Items) → n < N.nodes → SegmentsLower N b.cells t → Confined N W W.type (rule.failed_path b n r k t)
-      unfolding rule.failed_path rule.inst_path
-      failed_path_confined n (res.Local l) k t h S = refuse_10_confined n h
-      failed_path_confined n (res.Fn d) k t h S = refuse_10_confined n h
-      failed_path_confined n (res.Ctor d) k t h S = refuse_10_confined n h
-      failed_path_confined n (res.Inst i) k t h S = test_confined (ltb k t.count) (λ e. path_of_confined n k t h S (omega (arith, ltb-true k t.count e))) (refuse_10_confined n h)
-      failed_path_confined n res.Error k t h S = then_confined _ (set_extra_confined n _) (λ u q. done_confined _ (K.type 12 (omega arith)))
-      failed_path_confined n res.Other k t h S = refuse_10_confined n h
-
-      -- a path
-      pub path_confined : (n : ℕ) (r : Res) (k : ℕ) (t : Items) → n < N.nodes → ResLower N r → SegmentsLower N b.cells t → Confined N W W.type (rule.path b n r k t)
-      unfolding rule.path
-      path_confined n r k t h c S = cond_confined (is_partly_failed b.cells t) (failed_path_confined n r k t h S) (whole_path_confined n r h c)
 
 -- ── where every number is a type, a definition and an instance ──
 

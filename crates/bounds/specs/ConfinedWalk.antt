@@ -19,31 +19,25 @@ use Rattle.nodes.specs.declared.Local.{Local}
 use Rattle.nodes.specs.declared.Local.TheVariants as local
 use Rattle.nodes.specs.declared.Block.{Block}
 use Rattle.nodes.specs.declared.Block.TheVariants as block
-use Rattle.nodes.specs.declared.Node.{Node}
-use Rattle.nodes.specs.declared.Node.TheVariants as form
-use Rattle.nodes.specs.Nodes.{Body, item, declared_at, node_at, let_at, block_at, fn_line, as_arr}
+use Rattle.nodes.specs.Nodes.{Body, item, declared_at, let_at, as_arr}
 use Rattle.record.specs.declared.ErrorKind.TheVariants as error·K
 use Rattle.record.specs.declared.Span.{Span}
-use Rattle.record.specs.declared.Span.TheVariants as span
 use Rattle.rules.specs.Rules as rule
-use Rattle.walk.specs.Walk.{Visit, two, typeck_expr_bin_op, typeck_assign, typeck_op_assign, typeck_expr_un_op, typeck_expr_field, element, elements, rest, typeck_expr_list, index_of, typeck_expr_index, typeck_local, typeck_stmt, stmt, stmts, tail, typeck_block, block_of, block_at_lem, typeck_else, typeck_branches, typeck_expr_if, typeck_loop, arg, args, verify_arguments_for_call, call_of, typeck_call, verify_arguments_for_method_call, meth_call_of, typeck_expr_meth_call, typeck_return, lambda_body, typeck_lambda, rule_of, typeck_rule, typeck_expr}
-use Rattle.resolve.specs.Resolve.{bound_of, end_by, end_from, param_type_lem, param, params, result, typeck, end_of, drawn_as, open_type, variable_type, settled, resolve_variable, resolve_array, resolve_element, resolve_shape, resolve_type_variable, final_type, resolve_node, resolve_nodes, body_with}
-use Rattle.well_formed.specs.Good.{WellFormed}
-use Rattle.bounds.specs.Weights.{body_lower}
-use Rattle.bounds.specs.Declared.{behind_types}
-use Rattle.bounds.specs.Refers.{TypeBy, MaybeLower, ItemsLower, LocalLower, BlockLower, NodeLower, Refers, refers, fn_params}
-use Rattle.bounds.specs.Confined.{Maybe, Numbers, Parts, IsConfined, Confined, Any, Known, Callable, Called, as_arr_lem, declared_known, then_confined, done_confined, refuse_10_confined, set_node_type_confined, set_final_confined, node_type_confined, shape_of_confined, output_confined, new_infer_var_confined, array_of_confined, each_confined, equate_for_confined, equate_on_confined, error_then, bin_op_confined, un_op_confined, empty_list_confined, element_of_confined, condition_confined, returned_confined, let_without_init_confined, let_with_init_confined, field_confined, callee_of_confined, amounts_confined, argument_confined, method_of_confined, path_confined, lambda_output_confined, lambda_params_confined, lambda_rule_confined}
+use Rattle.walk.specs.Walk.{Visit, two, element, elements, rest, typeck_expr_list, index_of, typeck_local, typeck_stmt, stmt, stmts, tail, typeck_block, block_of, typeck_else, arg, args, verify_arguments_for_call, call_of, verify_arguments_for_method_call, meth_call_of, typeck_return}
+use Rattle.resolve.specs.Resolve.{bound_of, end_by, end_from, param_type_lem, param, params, end_of, drawn_as, open_type, variable_type, settled, resolve_variable, resolve_array, resolve_element, resolve_shape, resolve_type_variable, final_type, resolve_node, resolve_nodes}
+use Rattle.bounds.specs.Refers.{TypeBy, MaybeLower, ItemsLower, LocalLower, BlockLower, Refers}
+use Rattle.bounds.specs.Confined.{Maybe, Numbers, Parts, IsConfined, Confined, Any, Known, Callable, Called, as_arr_lem, declared_known, then_confined, done_confined, set_node_type_confined, set_final_confined, node_type_confined, shape_of_confined, array_of_confined, each_confined, equate_for_confined, equate_on_confined, error_then, empty_list_confined, returned_confined, let_without_init_confined, let_with_init_confined, amounts_confined, argument_confined}
 
 -- ── the rules that type other nodes, where E types each node by such a program ──
 
 module _ {N : Counts} {W : Numbers} {b : Body} (K : Known N b W) (R : Refers N b) (E : Visit) (visit : (y : ℕ) → y < N.nodes → Confined N W W.type (E y)) where
   -- two children
-  two_confined : (l r : ℕ) → l < N.nodes → r < N.nodes → Confined N W (λ t. W.type t.0 × W.type t.1) (two b E l r)
+  pub two_confined : (l r : ℕ) → l < N.nodes → r < N.nodes → Confined N W (λ t. W.type t.0 × W.type t.1) (two b E l r)
   unfolding two
   two_confined l r hl hr = then_confined _ (visit l hl) (λ x u. then_confined _ (visit r hr) (λ y v. done_confined _ (u, v)))
 
   -- a list
-  list_confined : (n : ℕ) (t : Items) → n < N.nodes → ItemsLower N b.cells t → Confined N W W.type (typeck_expr_list b E n t)
+  pub list_confined : (n : ℕ) (t : Items) → n < N.nodes → ItemsLower N b.cells t → Confined N W W.type (typeck_expr_list b E n t)
   unfolding typeck_expr_list rest elements element rule.element rule.list_of
   list_confined n t h I = by (eqb t.count 0) refl
     where
@@ -57,7 +51,7 @@ module _ {N : Counts} {W : Numbers} {b : Body} (K : Known N b W) (R : Refers N b
       by false p = full (omega (arith, eqb-false t.count 0 p))
 
   -- an index of an array
-  index_of_confined : (n i : ℕ) (o : Option ℕ) → n < N.nodes → i < N.nodes → Maybe W.type o → Confined N W W.type (index_of b E n i o)
+  pub index_of_confined : (n i : ℕ) (o : Option ℕ) → n < N.nodes → i < N.nodes → Maybe W.type o → Confined N W W.type (index_of b E n i o)
   unfolding rule.index index_of
   index_of_confined n i none h hi u = done_confined _ (K.type 12 (omega arith))
   index_of_confined n i (some e) h hi u = then_confined _ (visit i hi) (λ y v. equate_for_confined K n _ y (rule.mismatch error·K.TypeMismatch (rule.at n) rule.u64_type y 0) e h (K.type 5 (omega arith)) v u refl refl)
@@ -81,7 +75,7 @@ module _ {N : Counts} {W : Numbers} {b : Body} (K : Known N b W) (R : Refers N b
   tail_confined (node.Of e) m = visit e.0 m
 
   -- a block
-  block_confined : (e : MaybeNode) (t : Items) → MaybeLower N.nodes e → ItemsLower N b.cells t → Confined N W W.type (typeck_block b E e t)
+  pub block_confined : (e : MaybeNode) (t : Items) → MaybeLower N.nodes e → ItemsLower N b.cells t → Confined N W W.type (typeck_block b E e t)
   unfolding typeck_block stmts stmt
   block_confined e t m I =
       then_confined _
@@ -90,12 +84,12 @@ module _ {N : Counts} {W : Numbers} {b : Body} (K : Known N b W) (R : Refers N b
       (λ u q. tail_confined e m)
 
   -- BLOCK
-  block_of_confined : (k : Block) → BlockLower N b.cells k → Confined N W W.type (block_of b E k)
+  pub block_of_confined : (k : Block) → BlockLower N b.cells k → Confined N W W.type (block_of b E k)
   block_of_confined (block.Of e t) m = block_confined e t m.0 m.1
   block_of_confined block.Not m = done_confined _ (K.type 0 (omega arith))
 
   -- what stands after else
-  else_confined : (n x : ℕ) (e : MaybeNode) → n < N.nodes → W.type x → MaybeLower N.nodes e → Confined N W W.type (typeck_else b E n x e)
+  pub else_confined : (n x : ℕ) (e : MaybeNode) → n < N.nodes → W.type x → MaybeLower N.nodes e → Confined N W W.type (typeck_else b E n x e)
   unfolding rule.branches typeck_else
   else_confined n x node.Absent h u m = done_confined _ (K.type 0 (omega arith))
   else_confined n x (node.Of e) h u m = then_confined _ (visit e.0 m) (λ y v. equate_for_confined K n x y (rule.mismatch error·K.TypeMismatch (rule.at e.0) x y 0) x h u v u refl refl)
@@ -106,14 +100,14 @@ module _ {N : Counts} {W : Numbers} {b : Body} (K : Known N b W) (R : Refers N b
   args_confined n p f t from h c I = each_confined 0 t.count _ (λ i l. then_confined _ (visit _ (I i (omega arith))) (λ y v. argument_confined K R n p f _ y h c v))
 
   -- a callee and its arguments
-  call_of_confined : (n : ℕ) (t : Items) (o : Option (Callee × ℕ)) → n < N.nodes → ItemsLower N b.cells t → Called W o → Confined N W W.type (call_of b E n t o)
+  pub call_of_confined : (n : ℕ) (t : Items) (o : Option (Callee × ℕ)) → n < N.nodes → ItemsLower N b.cells t → Called W o → Confined N W W.type (call_of b E n t o)
   unfolding verify_arguments_for_call
   call_of_confined n t none h I c = done_confined _ (K.type 12 (omega arith))
   call_of_confined n t (some f) h I c =
       then_confined _ (amounts_confined K R _ f.0 t.count) (λ x q. then_confined _ (args_confined n _ f.0 t 0 h c.0 I) (λ y z. done_confined _ c.1))
 
   -- a method and its arguments
-  meth_call_of_confined : (n x : ℕ) (t : Items) (o : Option ℕ) → n < N.nodes → W.type x → ItemsLower N b.cells t → Maybe W.def o → Confined N W W.type (meth_call_of b E n x t o)
+  pub meth_call_of_confined : (n x : ℕ) (t : Items) (o : Option ℕ) → n < N.nodes → W.type x → ItemsLower N b.cells t → Maybe W.def o → Confined N W W.type (meth_call_of b E n x t o)
   unfolding verify_arguments_for_method_call
   meth_call_of_confined n x t none h u I c = done_confined _ (K.type 12 (omega arith))
   meth_call_of_confined n x t (some d) h u I c =
@@ -122,51 +116,10 @@ module _ {N : Counts} {W : Numbers} {b : Body} (K : Known N b W) (R : Refers N b
       (λ z r. then_confined _ (args_confined n _ (callee.Def (record { 0 = d })) t 1 h c I) (λ a s. done_confined _ (K.outputs d c))))
 
   -- a `return`
-  return_confined : (n : ℕ) (e : MaybeNode) → n < N.nodes → MaybeLower N.nodes e → Confined N W W.type (typeck_return b E n e)
+  pub return_confined : (n : ℕ) (e : MaybeNode) → n < N.nodes → MaybeLower N.nodes e → Confined N W W.type (typeck_return b E n e)
   unfolding typeck_return
   return_confined n node.Absent h m = returned_confined K n n _ h (K.type 0 (omega arith))
   return_confined n (node.Of e) h m = then_confined _ (visit e.0 m) (λ y v. returned_confined K n e.0 y h v)
-
-  -- the rule of a node
-  rule_confined : (n : ℕ) (m : Node) → n < N.nodes → NodeLower N b.cells m → Confined N W W.type (rule_of b E n m)
-  unfolding typeck_expr_bin_op typeck_assign typeck_op_assign typeck_expr_un_op typeck_expr_field typeck_expr_index typeck_expr_if typeck_branches block_at_lem typeck_loop typeck_call typeck_expr_meth_call typeck_lambda lambda_body rule.assign rule.op_assign
-  rule_confined n form.Bool h c = done_confined _ (K.type 1 (omega arith))
-  rule_confined n form.Int h c = new_infer_var_confined integer none refl
-  rule_confined n form.Float h c = new_infer_var_confined floating none refl
-  rule_confined n form.Str h c = refuse_10_confined n h
-  rule_confined n (form.Bin o l r) h c = then_confined _ (two_confined l.0 r.0 c.0 c.1) (λ t q. bin_op_confined K n o _ _ _ _ h q.0 q.1)
-  rule_confined n (form.Un o e) h c = then_confined _ (visit e.0 c) (λ x u. un_op_confined K o e.0 x u)
-  rule_confined n (form.Field e name) h c = then_confined _ (visit e.0 c) (λ x u. field_confined K R e.0 x name)
-  rule_confined n (form.List t) h c = list_confined n t h c
-  rule_confined n (form.Index t i) h c = then_confined _ (visit t.0 c.0) (λ x u. then_confined _ (element_of_confined K n x) (λ e v. index_of_confined n i.0 e h c.1 v))
-  rule_confined n (form.Assign v e) h c = then_confined _ (two_confined v.0 e.0 c.0 c.1) (λ t q. equate_for_confined K n t.0 t.1 (rule.between error·K.TypeMismatch v.0 e.0 t.0 t.1) _ h q.0 q.1 (K.type 0 (omega arith)) refl refl)
-  rule_confined n (form.OpAssign v e) h c = then_confined _ (two_confined v.0 e.0 c.0 c.1) (λ t q. equate_for_confined K n t.0 t.1 (rule.mismatch error·K.NoBinaryOp (rule.at n) t.0 t.1 0) _ h q.0 q.1 (K.type 0 (omega arith)) refl refl)
-  rule_confined n (form.If a k e) h c =
-      then_confined _ (visit a.0 c.0)
-      (λ x u. then_confined _ (condition_confined K a.0 x)
-      (λ z q. then_confined _ (block_of_confined (block_at b.rows b.cells k.0) (R.blocks k.0 c.1)) (λ y v. else_confined n y e h v c.2)))
-  rule_confined n (form.Loop k) h c = then_confined _ (block_of_confined (block_at b.rows b.cells k.0) (R.blocks k.0 c)) (λ y v. done_confined _ (K.type 0 (omega arith)))
-  rule_confined n form.Break h c = done_confined _ (K.type 13 (omega arith))
-  rule_confined n (form.Call f t) h c = then_confined _ (visit f.0 c.0) (λ x u. then_confined _ (callee_of_confined K R n x) (λ g q. call_of_confined n t g h c.1 q))
-  rule_confined n (form.MethodCall e name t) h c =
-      then_confined _ (visit e.0 c.0) (λ x u. then_confined _ (method_of_confined K R n e.0 x name) (λ d q. meth_call_of_confined n x t d h u c.1 q))
-  rule_confined n (form.Return e) h c = return_confined n e h c
-  rule_confined n (form.Block e t) h c = block_confined e t c.0 c.1
-  rule_confined n (form.Let t e) h c = done_confined _ (K.type 12 (omega arith))
-  rule_confined n (form.Param t) h c = done_confined _ (K.type 12 (omega arith))
-  rule_confined n (form.Lambda o e t) h c =
-      then_confined _ (lambda_params_confined K R t c.2)
-      (λ z q. then_confined _ (lambda_output_confined K n o h (declared_known K o c.0))
-      (λ x u. then_confined _ (visit e.0 c.1) (λ y v. lambda_rule_confined K b.cells n e.0 x y t h u v)))
-  rule_confined n (form.Path r k t) h c = path_confined K R n r k t h c.0 c.1
-
--- the typing of a node, of any number of levels
-expr_confined : {N : Counts} {W : Numbers} (b : Body) → Known N b W → Refers N b → (k x : ℕ) → x < N.nodes → Confined N W W.type (typeck_expr b k x)
-unfolding typeck_expr typeck_rule
-expr_confined b K R zero x h = done_confined _ (K.type 12 (omega arith))
-expr_confined b K R (suc k) x h =
-    then_confined _ (rule_confined K R (typeck_expr b k) (expr_confined b K R k) x (node_at b.rows b.cells x) h (R.children x h))
-    (λ t u. then_confined _ (set_node_type_confined x t u) (λ z q. done_confined t u))
 
 -- ── around the walk ──
 
@@ -248,19 +201,3 @@ module _ {N : Counts} {W : Numbers} {b : Body} (K : Known N b W) where
   pub resolve_nodes_confined : (k : ℕ) → Confined N W Any (resolve_nodes k)
   unfolding resolve_nodes resolve_node
   resolve_nodes_confined k = each_confined 0 k _ (λ i l. then_confined _ (node_type_confined i) (λ t u. final_type_confined i t u))
-
--- ── a body ──
-
-module _ (n : Counts) (rows cells : List ℕ) (w : WellFormed n rows cells) {W : Numbers} (K : Known n (body_with n rows cells) W) where
-  -- BODY and its result
-  pub typeck_confined : Confined n W Any (typeck (body_with n rows cells) (fn_line rows cells).body.0)
-  unfolding typeck result fn_line
-  typeck_confined =
-      let h = body_lower n rows cells w in
-      then_confined _ (expr_confined (body_with n rows cells) K (refers n rows cells w) 64 _ h) (λ y u. then_confined _ output_confined (λ x v. equate_on_confined K _ x y (rule.mismatch error·K.TypeMismatch span.Signature x y 0) h v u refl refl))
-
-  -- what a body runs behind its type lines
-  pub behind_types_confined : Confined n W Any (behind_types n rows cells)
-  behind_types_confined =
-      then_confined _ (params_confined K (refers n rows cells w) _ (fn_params n rows cells w))
-      (λ u q. then_confined _ typeck_confined (λ v z. resolve_nodes_confined K n.nodes))

@@ -13,7 +13,8 @@ use Rattle.std.proofs.Math.ListN.{length-append}
 use Rattle.theory.specs.Rules.{inst, Shape, base, arr, fn, fun, nil, row, head}
 use Rattle.theory.specs.Program.{made_of, equal_numbers, equal_rows, first_equal, all_below, sane, clip, done, intern, appended, pooled, interned, run, ◌>>=◌, run_bind}
 use Rattle.theory.specs.Basics.{All, clash, and_both}
-use Rattle.theory.specs.Pool.{equal_rows_same, first_some}
+use Rattle.theory.specs.Pool.{equal_rows_same}
+use Rattle.theory.proofs.Pool.{first_some}
 use Rattle.theory.specs.Lift.{row_old, row_new}
 use Rattle.theory.specs.Start.{start}
 use Rattle.type_table.specs.Memory.{pick}
@@ -28,7 +29,7 @@ use Rattle.resolve.specs.Resolve.{declare_type, declare_types, params, typeck, r
 use Rattle.well_formed.specs.Good.{WellFormed, behind}
 use Rattle.well_formed.specs.Counting.{each, each_at}
 use Rattle.well_formed.specs.Levels.{low_type, type_good}
-use Rattle.well_formed.specs.Distinct.{array_once, inst_once, fn_once}
+use Rattle.well_formed.proofs.Distinct.{array_once, inst_once, fn_once}
 use Rattle.bounds.specs.Weights.{kind_by}
 
 -- ── definitions ──

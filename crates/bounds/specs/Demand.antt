@@ -4,7 +4,7 @@ use Rattle.std.proofs.Math.Option.{none}
 use Rattle.theory.specs.Program.{Equation}
 use Rattle.theory.specs.Basics.{All}
 use Rattle.theory.specs.Ways.{Way, Kinded, Agrees, Sided, Meets, Went, Failed}
-use Rattle.theory.specs.Claims as theory
+use Rattle.theory.proofs.Claims as theory
 use Rattle.type_table.specs.Sound.{fixed_types}
 use Rattle.refs.specs.declared.Counts.{Counts}
 use Rattle.nodes.specs.Nodes.{fn_line}

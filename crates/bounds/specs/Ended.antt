@@ -4,10 +4,13 @@ use Rattle.std.proofs.Math.Option.{Option}
 use Rattle.theory.specs.Rules.{Out, success, mismatch, refused12, refused13, dry, unify}
 use Rattle.theory.specs.Program.{Equation, done, refuse, draw, intern, equate, emit, mark, read, write, clip, fuel, drawn, emitted, written, refused, marking, raised, interned, solved, react, run}
 use Rattle.theory.specs.Basics.{clash}
-use Rattle.theory.specs.Keep.{Ended, solve_kept}
-use Rattle.theory.specs.Enough.{solve_more}
-use Rattle.theory.specs.Demand.{Track, clip_in, track}
-use Rattle.theory.specs.Start.{start, start_track}
+use Rattle.theory.specs.Keep.{Ended}
+use Rattle.theory.proofs.Keep.{solve_kept}
+use Rattle.theory.proofs.Enough.{solve_more}
+use Rattle.theory.specs.Demand.{Track, clip_in}
+use Rattle.theory.proofs.Demand.{track}
+use Rattle.theory.specs.Start.{start}
+use Rattle.theory.proofs.Start.{start_track}
 use Rattle.type_table.specs.Sound.{fixed_types}
 use Rattle.refs.specs.declared.Counts.{Counts}
 use Rattle.record.specs.declared.TypingError.{TypingError}

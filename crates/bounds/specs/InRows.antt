@@ -1,15 +1,17 @@
 -- Each type number that the run of a well-formed body uses behind its type lines is that of a row. Assumes nothing.
 use Rattle.std.specs.Prelude.{◌≡◌, refl, List, [], ◌∷◌, ◌++◌, Bool, true, false, get_or, replicate}
 use Rattle.std.proofs.Math.Option.{Option, none, some}
-use Prim.Native.Nat.{ℕ, suc, zero, ◌+◌, ◌<◌, ◌≤◌}
+use Prim.Native.Nat.{ℕ, suc, zero, ◌<◌, ◌≤◌}
 use Rattle.std.proofs.Common.{arith, lt-ltb, length-append}
 use Rattle.std.proofs.Math.ListN.{length}
 use Rattle.theory.specs.Rules.{Base, bool, nil, float, double, uint, int, inst, Shape, base, var, arr, ref, fn, fun, lam, err, div, Kind, Out, success, mismatch, refused12, refused13, dry, as_var, row, bound}
 use Rattle.theory.specs.Program.{done, refuse, draw, intern, equate, emit, mark, read, write, clip, first_equal, all_below, sane, drawn, appended, emitted, written, marking, raised, pooled, intern_if, interned, solved, react, run}
 use Rattle.theory.specs.Basics.{All, all_map, clash}
-use Rattle.theory.specs.Demand.{Track, track}
-use Rattle.theory.specs.Pool.{first_some}
-use Rattle.theory.specs.Start.{start, start_track}
+use Rattle.theory.specs.Demand.{Track}
+use Rattle.theory.proofs.Demand.{track}
+use Rattle.theory.proofs.Pool.{first_some}
+use Rattle.theory.specs.Start.{start}
+use Rattle.theory.proofs.Start.{start_track}
 use Rattle.type_table.specs.Sound.{fixed_types}
 use Rattle.refs.specs.declared.Counts.{Counts}
 use Rattle.nodes.specs.Nodes.{items_of, def_inputs, field_type, fn_line}
@@ -17,10 +19,9 @@ use Rattle.record.specs.Own.{Own, blank}
 use Rattle.record.specs.Steps.{State, Walk}
 use Rattle.resolve.specs.Resolve.{declare_types, body_with}
 use Rattle.well_formed.specs.Good.{WellFormed}
-use Rattle.bounds.specs.Declared.{line_shape, declared, declared_length, behind_types, row_all, Line, array, function, instance_of, definition, line, array_lower, output_lower, inputs_lower, types_declared}
+use Rattle.bounds.specs.Declared.{line_shape, declared, declared_length, row_all, Line, array, function, instance_of, definition, line, array_lower, output_lower, inputs_lower, types_declared}
 use Rattle.bounds.specs.Refers.{Declared, Refers, type_more, numbers_all, refers, fn_output}
 use Rattle.bounds.specs.Confined.{Maybe, Numbers, BaseParts, Parts, OwnTypes, StateTypes, IsConfined, Any, Known}
-use Rattle.bounds.specs.ConfinedWalk.{behind_types_confined}
 use Rattle.bounds.specs.Nesting.{Behind}
 
 module _ {A : Type 0} where
@@ -81,10 +82,10 @@ module _ (N : Counts) (T U : ℕ → Type 0) (h : (x : ℕ) → T x → U x) whe
 -- ── the state of a run ──
 
 -- the invariant of demand 3, and every row, the type that `return` answers to and RAW of each node is made of rows
-record Stands (N : Counts) (s : State) : Type 0 where
-  track : Track s
-  rows : (x : ℕ) → Parts (standing N (λ y. y < length s.rows)) (row s.rows x)
-  own : OwnTypes (λ y. y < length s.rows) s.own
+pub record Stands (N : Counts) (s : State) : Type 0 where
+  pub track : Track s
+  pub rows : (x : ℕ) → Parts (standing N (λ y. y < length s.rows)) (row s.rows x)
+  pub own : OwnTypes (λ y. y < length s.rows) s.own
 
 -- so its types are types, wherever each row is one
 state_types : (N : Counts) (s : State) → Stands N s → (T : ℕ → Type 0) → ((x : ℕ) → x < length s.rows → T x) → StateTypes (standing N T) s
@@ -179,7 +180,7 @@ interned_stands N t s I e p = by (track (intern t done) s I.track) e
 -- ── a run ──
 
 -- a program that is confined wherever each row is a type uses only rows
-run_in_rows : {A : Type 0} (N : Counts) (p : Walk A) (s : State) → Stands N s → ((T : ℕ → Type 0) → ((x : ℕ) → x < length s.rows → T x) → IsConfined N (standing N T) Any p) → InRows p s
+pub run_in_rows : {A : Type 0} (N : Counts) (p : Walk A) (s : State) → Stands N s → ((T : ℕ → Type 0) → ((x : ℕ) → x < length s.rows → T x) → IsConfined N (standing N T) Any p) → InRows p s
 unfolding IsConfined InRows run drawn emitted written marking raised
 run_in_rows N (done a) s I H = tt
 run_in_rows N (refuse k n) s I H = tt
@@ -253,7 +254,7 @@ module _ (n : Counts) (rows cells : List ℕ) (w : WellFormed n rows cells) wher
   declared_below x h = omega (arith, declared_length rows cells n.types)
 
   -- the state behind the type lines stands
-  start_stands : Stands n (declared_state n rows cells)
+  pub start_stands : Stands n (declared_state n rows cells)
   unfolding start blank
   start_stands =
       let T : ℕ → Type 0 = λ y. y < length (declared rows cells n.types) in
@@ -281,8 +282,3 @@ module _ (n : Counts) (rows cells : List ℕ) (w : WellFormed n rows cells) wher
         inputs = λ d l. all_map (Declared n) T (items_of cells (def_inputs rows d)) k (R.inputs d l);
         fields = λ i name l. type_more (Declared n) T k (field_type rows cells i name) (R.fields i name l);
       }
-
-  -- what a body runs behind its type lines uses only rows
-  pub body_in_rows : InRows (behind_types n rows cells) (declared_state n rows cells)
-  unfolding start
-  body_in_rows = run_in_rows n (behind_types n rows cells) (declared_state n rows cells) start_stands (λ T h. (behind_types_confined n rows cells w (known T h)).by)

@@ -1,24 +1,15 @@
 -- The rows of a well-formed body hold only instances of its file, and so may each way that meets its equations. Assumes nothing.
 use Rattle.std.specs.Prelude.{◌≡◌, refl, List, Bool, true, false, cond, ℕ, suc, zero, ◌<◌, ltb, length}
-use Rattle.std.proofs.Common.{sym, ap, ◌∙◌, inl, inr, arith, ltb-true, lt-ltb}
-use Rattle.std.proofs.Math.Path.{subst}
+use Rattle.std.proofs.Common.{sym, ap, ◌∙◌, inl, inr, ltb-true, lt-ltb}
 use Rattle.std.proofs.Math.Option.{Option, none, some}
 use Rattle.theory.specs.Rules.{Base, bool, nil, float, double, uint, int, inst, Shape, base, var, arr, ref, fn, fun, lam, err, div, Kind, regular, integer, floating, mismatch, row, kind, iter}
 use Rattle.theory.specs.Program.{Equation, done, refuse, draw, intern, equate, emit, mark, read, write, clip, first_equal, sane, drawn, appended, emitted, written, refused, marking, raised, pooled, intern_if, interned, solved, react_cases, run}
-use Rattle.theory.specs.Basics.{All, all_map, clash}
-use Rattle.theory.specs.Ways.{Ty, basic, array_of, Way, ty_fits, Kinded, den_of, den_at, den, Meets}
-use Rattle.theory.specs.Start.{start}
+use Rattle.theory.specs.Basics.{clash}
+use Rattle.theory.specs.Ways.{Ty, basic, array_of, Way, ty_fits, den_of, den_at, den, Meets}
 use Rattle.refs.specs.declared.Counts.{Counts}
-use Rattle.nodes.specs.Nodes.{fn_line}
-use Rattle.record.specs.Own.{blank}
 use Rattle.record.specs.Steps.{State, Walk}
-use Rattle.resolve.specs.Body.{last_state}
-use Rattle.well_formed.specs.Good.{WellFormed}
-use Rattle.bounds.specs.Declared.{declared, behind_types, body_behind}
-use Rattle.bounds.specs.Refers.{Declared}
 use Rattle.bounds.specs.Confined.{BaseParts, Parts, IsConfined, Any, any_state}
-use Rattle.bounds.specs.ConfinedWalk.{behind_types_confined}
-use Rattle.bounds.specs.InRows.{standing, parts_more, rows_more, declared_state, declared_parts, known}
+use Rattle.bounds.specs.InRows.{standing, rows_more}
 
 -- ── definitions ──
 
@@ -44,7 +35,7 @@ WayOf k w = (v : ℕ) → TypeOf k (w v)
 -- ── the rows of a run ──
 
 -- each row is made of definitions and instances of the file
-abbrev RowsOf : Counts → List Shape → Type 0
+abbrev pub RowsOf : Counts → List Shape → Type 0
 RowsOf N l = (x : ℕ) → Parts (standing N Any) (row l x)
 
 -- a made type
@@ -61,7 +52,7 @@ interned_of N t s h p = by (sane (length s.rows) t)
     by false = h
 
 -- a program that makes types of such alone
-run_of : {A : Type 0} (N : Counts) (p : Walk A) → IsConfined N (standing N Any) Any p → (s : State) → RowsOf N s.rows → RowsOf N (run p s).1.rows
+pub run_of : {A : Type 0} (N : Counts) (p : Walk A) → IsConfined N (standing N Any) Any p → (s : State) → RowsOf N s.rows → RowsOf N (run p s).1.rows
 unfolding run IsConfined drawn emitted written refused marking raised
 run_of N (done a) c s h = h
 run_of N (refuse k n) c s h = h
@@ -90,12 +81,12 @@ trim_base k (int w) = int w
 trim_base k (inst i) = cond (ltb i k) (inst i) nil
 
 -- the same in a type
-abbrev trim : ℕ → Ty → Ty
+abbrev pub trim : ℕ → Ty → Ty
 trim k (basic b) = basic (trim_base k b)
 trim k (array_of t) = array_of (trim k t)
 
 -- what is left is of the first k
-trim_base_of : (k : ℕ) (b : Base) → BaseOf k (trim_base k b)
+pub trim_base_of : (k : ℕ) (b : Base) → BaseOf k (trim_base k b)
 trim_base_of k bool = tt
 trim_base_of k nil = tt
 trim_base_of k float = tt
@@ -108,13 +99,8 @@ trim_base_of k (inst i) = by (ltb i k) refl
     by true e = ltb-true i k e
     by false e = tt
 
--- in a type
-trim_of : (k : ℕ) (t : Ty) → TypeOf k (trim k t)
-trim_of k (basic b) = trim_base_of k b
-trim_of k (array_of t) = trim_of k t
-
 -- the kind of a variable is still met
-trim_fits : (k : ℕ) (l : Kind) (t : Ty) → ty_fits l t ≡ true → ty_fits l (trim k t) ≡ true
+pub trim_fits : (k : ℕ) (l : Kind) (t : Ty) → ty_fits l t ≡ true → ty_fits l (trim k t) ≡ true
 trim_fits k l (array_of t) e = e
 trim_fits k regular (basic b) e = refl
 trim_fits k integer (basic bool) e = e
@@ -144,7 +130,7 @@ trim_same N (inst i) h = rw (lt-ltb i N.insts h)
 
 module _ (N : Counts) (rows : List Shape) (h : RowsOf N rows) (w : Way) where
   -- the way without other instances
-  abbrev trimmed : Way
+  abbrev pub trimmed : Way
   trimmed v = trim N.insts (w v)
 
   -- what a row becomes under it
@@ -168,25 +154,6 @@ module _ (N : Counts) (rows : List Shape) (h : RowsOf N rows) (w : Way) where
   den_trimmed x = den_steps (length rows) x
 
   -- it meets what the way meets
-  meets_trimmed : (q : Equation) → Meets rows w q → Meets rows trimmed q
+  pub meets_trimmed : (q : Equation) → Meets rows w q → Meets rows trimmed q
   meets_trimmed q (inl e) = inl e
   meets_trimmed q (inr e) = inr (den_trimmed q.expected ∙ ap (trim N.insts) e ∙ sym (den_trimmed q.got))
-
-  -- so where a way meets equations, one of the file's own instances does
-  way_trimmed : (kinds : List Kind) (l : List Equation) → Kinded kinds w → All (Meets rows w) l → (v : Way) × WayOf N.insts v × Kinded kinds v × All (Meets rows v) l
-  way_trimmed kinds l k m = (trimmed, λ v. trim_of N.insts (w v), λ v. trim_fits N.insts (kind kinds v) (w v) (k v), all_map (Meets rows w) (Meets rows trimmed) l meets_trimmed m)
-
--- ── a body ──
-
-module _ (n : Counts) (rows cells : List ℕ) (w : WellFormed n rows cells) where
-  -- the rows in which a body ends
-  body_of : RowsOf n (last_state n rows cells).rows
-  unfolding start
-  body_of =
-      subst (λ (r : Option (Unit {0}) × State). RowsOf n r.1.rows) (sym (body_behind n rows cells w (blank (fn_line rows cells).output.0)))
-      (run_of n (behind_types n rows cells) (behind_types_confined n rows cells w (known n rows cells w Any (λ x l. tt))).by (declared_state n rows cells)
-      (λ x. parts_more n (Declared n) Any (λ y l. tt) (row (declared rows cells n.types) x) (declared_parts n rows cells w n.types (omega arith) x)))
-
-  -- where a way meets its equations, one of the instances of the file does
-  pub body_way : let s = last_state n rows cells in (v : Way) → Kinded s.kinds v → All (Meets s.rows v) s.log → (u : Way) × WayOf n.insts u × Kinded s.kinds u × All (Meets s.rows u) s.log
-  body_way v = let s = last_state n rows cells in way_trimmed n s.rows body_of v s.kinds s.log

@@ -30,7 +30,7 @@ use Rattle.resolve.specs.Resolve.{body_with}
 use Rattle.well_formed.specs.Good.{WellFormed}
 use Rattle.well_formed.specs.UsedOnce.{child_in}
 use Rattle.well_formed.specs.Weight.{node_level, body_in}
-use Rattle.well_formed.specs.Levels.{child_fewer}
+use Rattle.well_formed.proofs.Levels.{child_fewer}
 use Rattle.bounds.specs.Weights.{pick_by, is_node, is_optional, kind_by, first_child, items_at, first_field, Part, node_part, optional_part, item_part, body_lower}
 
 -- ── programs ──

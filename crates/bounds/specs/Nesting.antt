@@ -10,7 +10,6 @@ use Rattle.theory.specs.Rules.{Shape, base, var, arr, ref, fn, fun, lam, err, di
 use Rattle.theory.specs.Program.{done, refuse, draw, intern, equate, emit, mark, read, write, clip, first_equal, sane, drawn, appended, emitted, written, refused, marking, raised, pooled, intern_if, interned, solved, react_cases, run, ◌>>=◌}
 use Rattle.theory.specs.Basics.{All, all_map, clash}
 use Rattle.theory.specs.Depth.{In, Pure, pure_base, pure_fn, pure_err, pure_div, pure_array, pure_function, Functions}
-use Rattle.theory.specs.Start.{start}
 use Rattle.type_table.specs.Sound.{fixed_types}
 use Rattle.forms.specs.Form.{forms, form_at, kind_at, LowType}
 use Rattle.refs.specs.declared.Counts.{Counts}
@@ -19,16 +18,14 @@ use Rattle.nodes.specs.declared.TypeRow.{TypeRow}
 use Rattle.nodes.specs.declared.TypeRow.TheVariants as row·T
 use Rattle.nodes.specs.Nodes.{numbers_from, type_row_at, is_fun}
 use Rattle.record.specs.declared.TypingError.{TypingError}
-use Rattle.record.specs.Own.{Own}
 use Rattle.record.specs.Steps.{State, Walk, Step, array_of, fn_def_lem, instance, make_function, for_each}
-use Rattle.resolve.specs.Resolve.{type_of_line, declare_type, declare_types, body_with, type_body}
+use Rattle.resolve.specs.Resolve.{type_of_line, declare_type, declare_types}
 use Rattle.body.specs.Body.{levels_over, deeper}
 use Rattle.well_formed.specs.Good.{WellFormed, kind_in}
 use Rattle.well_formed.specs.Levels.{TypeIn, type_good, type_lower, fun_levels, part_levels}
 use Rattle.bounds.specs.Weights.{kind_by}
-use Rattle.bounds.specs.Declared.{line_shape, declared, declared_length, declared_row, declared_fixed, behind_types, row_all, Line, array, function, instance_of, definition, line, types_declared, body_behind}
-use Rattle.bounds.specs.Confined.{is_made, IsConfined, Any, any_numbers, any_state, any_known}
-use Rattle.bounds.specs.ConfinedWalk.{behind_types_confined}
+use Rattle.bounds.specs.Declared.{line_shape, declared, declared_length, declared_row, declared_fixed, row_all, Line, array, function, instance_of, definition, line}
+use Rattle.bounds.specs.Confined.{is_made, IsConfined, Any, any_numbers, any_state}
 
 -- ── tables that grow by made types ──
 
@@ -39,7 +36,7 @@ pub record More (l r : List Shape) : Type 0 where
   pub made : All (λ s. is_made s ≡ true) rest
 
 -- a table is itself
-more_same : (l : List Shape) → More l l
+pub more_same : (l : List Shape) → More l l
 more_same l = record { rest = []; rows = sym (append-nil l); made = tt }
 
 -- each of a list and one more
@@ -75,7 +72,7 @@ module _ (l : List Shape) where
       by false = m
 
   -- a program that makes types of these forms
-  run_more : {A : Type 0} (N : Counts) (p : Walk A) → IsConfined N any_numbers Any p → (s : State) → More l s.rows → More l (run p s).1.rows
+  pub run_more : {A : Type 0} (N : Counts) (p : Walk A) → IsConfined N any_numbers Any p → (s : State) → More l s.rows → More l (run p s).1.rows
   unfolding run IsConfined emitted written refused marking raised
   run_more N (done a) f s m = m
   run_more N (refuse k n) f s m = m
@@ -126,7 +123,7 @@ module _ {A : Type 0} (P : State → Type 0) where
   AtEquations (write o p) s = AtEquations p (written o s)
 
 -- a program that makes types of these forms: what holds of every table that grew by such
-at_confined : {A : Type 0} (P : State → Type 0) (l : List Shape) → ((s : State) → More l s.rows → P s)
+pub at_confined : {A : Type 0} (P : State → Type 0) (l : List Shape) → ((s : State) → More l s.rows → P s)
     → (N : Counts) (p : Walk A) → IsConfined N any_numbers Any p → (s : State) → More l s.rows → AtEquations P p s
 unfolding AtEquations IsConfined emitted written marking raised
 at_confined P l h N (done a) f s m = tt
@@ -147,7 +144,7 @@ at_confined P l h N (write o p) f s m = at_confined P l h N p f.1 (written o s) 
 
 module _ {A : Type 0} where
   -- a program raises no equation
-  unfoldable Silent : Walk A → Type 0
+  unfoldable pub Silent : Walk A → Type 0
   Silent (done a) = Unit {0}
   Silent (refuse k n) = Unit {0}
   Silent (draw k o f) = (r : ℕ) → Silent (f r)
@@ -178,7 +175,7 @@ module _ {A B : Type 0} where
   then_silent (write o p) g P Q = then_silent p g P Q
 
   -- behind a program that raises none, the equations are those of what follows its answer
-  at_then : (P : State → Type 0) (p : Walk A) (g : A → Walk B) → Silent p → (s : State) (a : A) (t : State) → run p s ≡ (some a, t) → AtEquations P (g a) t → AtEquations P (◌>>=◌ p g) s
+  pub at_then : (P : State → Type 0) (p : Walk A) (g : A → Walk B) → Silent p → (s : State) (a : A) (t : State) → run p s ≡ (some a, t) → AtEquations P (g a) t → AtEquations P (◌>>=◌ p g) s
   unfolding AtEquations Silent run ◌>>=◌
   at_then P (done b) g q s a t e h =
       let o : some b ≡ some a = ap (λ (r : Option A × State). r.0) e in
@@ -209,7 +206,7 @@ line_silent cells (row·T.Inst k) = cond_silent (ltb k.0 64) _ _ (λ r. tt) tt
 line_silent cells (row·T.Fn d) = cond_silent (ltb d.0 256) _ _ (λ r. tt) tt
 
 -- the type lines
-types_silent : (rows cells : List ℕ) (k : ℕ) → Silent (declare_types rows cells k)
+pub types_silent : (rows cells : List ℕ) (k : ℕ) → Silent (declare_types rows cells k)
 unfolding declare_types declare_type Silent
 types_silent rows cells k = each_silent 0 k _ (λ i. then_silent (type_of_line cells (type_row_at rows cells i)) _ (line_silent cells (type_row_at rows cells i)) (λ x. tt))
 
@@ -357,22 +354,3 @@ module _ (n : Counts) (rows cells : List ℕ) (w : WellFormed n rows cells) (l :
           let h : x - 14 < n.types = omega (arith, ltb-false x 14 p, ltb-true x (14 + n.types) q) in
           rw j at (line_pure (suc (x - 14)) (x - 14) 4 (omega arith) h (w.nesting (x - 14) h))
       by false p false q = absurd (true≢false (sym (ap is_fun e) ∙ new_row x (ltb-false x (14 + n.types) q)))
-
--- ── a body ──
-
-module _ (n : Counts) (rows cells : List ℕ) (w : WellFormed n rows cells) (own : Own) where
-  -- the types of a whole body are the declared ones, and then types of the made forms
-  pub body_rows_lem : More (declared rows cells n.types) (run (type_body n rows cells) (start fixed_types own)).1.rows
-  unfolding start
-  body_rows_lem =
-      rw (body_behind n rows cells w own)
-      (run_more (declared rows cells n.types) n (behind_types n rows cells) (behind_types_confined n rows cells w (any_known n (body_with n rows cells))).by (start (declared rows cells n.types) own) (more_same (declared rows cells n.types)))
-
-  -- at each equation of a body functions stand at most 4 deep in one another
-  pub body_equations : (P : State → Type 0) → ((s : State) → Functions s.rows 4 → P s) → AtEquations P (type_body n rows cells) (start fixed_types own)
-  unfolding type_body start
-  body_equations P h =
-      at_then P (declare_types rows cells n.types) (λ u. behind_types n rows cells) (types_silent rows cells n.types) (start fixed_types own) tt (start (declared rows cells n.types) own)
-      (types_declared n rows cells w own)
-      (at_confined P (declared rows cells n.types) (λ s m. h s (four_deep n rows cells w s.rows m)) n (behind_types n rows cells) (behind_types_confined n rows cells w (any_known n (body_with n rows cells))).by (start (declared rows cells n.types) own)
-      (more_same (declared rows cells n.types)))

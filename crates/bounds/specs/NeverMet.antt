@@ -1,40 +1,35 @@
 -- A well-formed body meets no default: with any other answers in their place it runs to the same answer and state. Assumes nothing.
 use Rattle.std.specs.Prelude.{◌≡◌, List, [], ◌∷◌, Bool, ℕ, suc, zero, ◌+◌, ◌<◌, ◌≤◌, eqb, get_or, replicate}
-use Rattle.std.proofs.Math.Path.{refl, sym}
+use Rattle.std.proofs.Math.Path.{refl}
 use Rattle.std.proofs.Common.{ap, ◌∙◌, arith}
 use Rattle.std.proofs.Math.Option.{Option, none, some}
 use Rattle.std.proofs.Math.Bool.{true, false, cond}
 use Rattle.std.proofs.lemmas.Bool.{false≢true}
 use Rattle.std.proofs.Math.ListN.{length}
 use Rattle.theory.specs.Rules.{Shape, Kind, regular, integer, floating, as_var, row, kind, bound, iter}
-use Rattle.theory.specs.Program.{run, ◌>>=◌, run_bind}
+use Rattle.theory.specs.Program.{run, ◌>>=◌}
 use Rattle.theory.specs.Basics.{All}
 use Rattle.theory.specs.Graph.{Good}
-use Rattle.theory.specs.Demand.{Track, track}
+use Rattle.theory.specs.Demand.{Track}
+use Rattle.theory.proofs.Demand.{track}
 use Rattle.theory.specs.Start.{start}
-use Rattle.type_table.specs.Sound.{fixed_types}
 use Rattle.forms.specs.Form.{forms, form_at, kind_at}
 use Rattle.refs.specs.declared.Counts.{Counts}
 use Rattle.refs.specs.Refs.{nodes_at, fn_at, form_in, count_in, is_expr, is_last, stands}
-use Rattle.nodes.specs.Nodes.{Body, fn_line, as_arr}
-use Rattle.record.specs.Own.{Own, blank}
+use Rattle.nodes.specs.Nodes.{Body, as_arr}
+use Rattle.record.specs.Own.{blank}
 use Rattle.record.specs.Steps.{State, Walk, shape_of_lem, for_each}
 use Rattle.rules.specs.Rules.{err_type}
-use Rattle.resolve.specs.Resolve.{declare_types, result, typeck, bound_of, end_by, end_from, end_of, drawn_as, open_type, variable_type, settled, resolve_variable, resolve_array, resolve_element, resolve_shape, resolve_type_variable, final_type, resolve_node, resolve_nodes, body_with, type_body}
-use Rattle.resolve.specs.Body.{first_state}
+use Rattle.resolve.specs.Resolve.{bound_of, end_by, end_from, end_of, drawn_as, open_type, variable_type, settled, resolve_variable, resolve_array, resolve_element, resolve_shape, resolve_type_variable, final_type, resolve_node, resolve_nodes, body_with}
 use Rattle.well_formed.specs.Good.{WellFormed, kind_in}
 use Rattle.well_formed.specs.Weight.{body_in, fn_count, fn_has_child}
-use Rattle.bounds.specs.Weights.{body_lower}
-use Rattle.bounds.specs.Body.{params_adds, result_adds, resolve_nodes_adds}
-use Rattle.bounds.specs.Declared.{behind_types, types_declared, body_behind}
-use Rattle.bounds.specs.Refers.{refers, fn_form, fn_params}
+use Rattle.bounds.specs.Refers.{fn_form}
 use Rattle.bounds.specs.Confined.{Confined, Known, DrawnAt, Any, any_numbers, any_known, done_confined, shape_of_confined, node_type_confined, set_final_confined, array_of_confined}
-use Rattle.bounds.specs.ConfinedWalk.{behind_types_confined, params_confined, typeck_confined, resolve_variable_confined}
+use Rattle.bounds.specs.ConfinedWalk.{resolve_variable_confined}
 use Rattle.bounds.specs.InRows.{declared_state, declared_track}
 use Rattle.bounds.specs.Origins.{OriginsOf, origin_of_lem, drawn_some, run_origins}
-use Rattle.bounds.specs.Alike.{Same, bind_same, each_same, and_same, Raws, raws_kept, Alike, leaf, bind_alike}
-use Rattle.bounds.specs.WalkAlike.{expr_alike}
-use Rattle.bounds.specs.Defaults.{Defaults, other_end, other_open, other_settled, other_variable, other_array, other_element, other_shape, other_resolved, other_final, other_node, other_typeck, other_behind, other_body}
+use Rattle.bounds.specs.Alike.{Same, bind_same, each_same, and_same, Raws, Alike}
+use Rattle.bounds.specs.Defaults.{Defaults, other_end, other_open, other_settled, other_variable, other_array, other_element, other_shape, other_resolved, other_final, other_node}
 
 -- ── the end of bindings ──
 
@@ -56,9 +51,9 @@ module _ (rows : List Shape) (kinds : List Kind) (b : List (Option ℕ)) (good :
 -- ── the final types ──
 
 -- the invariant of demand 3, and the origins of the variables
-record Drawn (N : Counts) (s : State) : Type 0 where
-  tracked : Track s
-  origins : OriginsOf N.nodes s
+pub record Drawn (N : Counts) (s : State) : Type 0 where
+  pub tracked : Track s
+  pub origins : OriginsOf N.nodes s
 
 module _ (N : Counts) (small : N.nodes ≤ 1024) (b : Body) (D : Defaults) where
   -- a confined program keeps them
@@ -119,7 +114,7 @@ module _ (N : Counts) (small : N.nodes ≤ 1024) (b : Body) (D : Defaults) where
   final_same p (some x) = bind_same (bind_same (itself (shape_of_confined x)) (λ s. shape_same x s (as_var s))) (λ y. itself (set_final_confined p y))
 
   -- the final types of k nodes
-  nodes_same : (k : ℕ) → Same (Drawn N) (resolve_nodes k) (for_each 0 k (other_node D))
+  pub nodes_same : (k : ℕ) → Same (Drawn N) (resolve_nodes k) (for_each 0 k (other_node D))
   unfolding resolve_nodes resolve_node other_node
   nodes_same k = each_same 0 k _ _ (λ i l. bind_same (itself (node_type_confined i)) (λ t. final_same i t))
 
@@ -127,7 +122,7 @@ module _ (N : Counts) (small : N.nodes ≤ 1024) (b : Body) (D : Defaults) where
 
 module _ (n : Counts) (rows cells : List ℕ) (w : WellFormed n rows cells) (D : Defaults) where
   -- BODY is an expression
-  body_expr : is_expr (form_in rows (nodes_at + body_in rows cells)) ≡ true
+  pub body_expr : is_expr (form_in rows (nodes_at + body_in rows cells)) ≡ true
   unfolding form_at forms kind_at stands is_last
   body_expr =
       let l : 1 < count_in rows fn_at = omega (arith, fn_count n rows cells w) in
@@ -138,53 +133,18 @@ module _ (n : Counts) (rows cells : List ℕ) (w : WellFormed n rows cells) (D :
       by true e = e
       by false e = absurd (false≢true e)
 
-  -- BODY and its result
-  typeck_alike : Alike n.nodes (typeck (body_with n rows cells) (fn_line rows cells).body.0) (other_typeck D (body_with n rows cells) (fn_line rows cells).body.0)
-  unfolding typeck other_typeck fn_line
-  typeck_alike =
-      let h = body_lower n rows cells w in
-      bind_alike (expr_alike n rows cells w D 64 (body_in rows cells) h (w.depth (body_in rows cells) h) body_expr) (λ y. leaf (result_adds n rows cells w (body_in rows cells) y))
-
   -- what holds of each state between the parts of a body
-  abbrev Whole : State → Type 0
+  abbrev pub Whole : State → Type 0
   Whole s = Raws n.nodes [] s × Drawn n s
 
   -- a part that runs alike
-  part_same : {A : Type 0} {Q : A → Type 0} {p q : Walk A} → Alike n.nodes p q → Confined n any_numbers Q p → Same Whole p q
+  pub part_same : {A : Type 0} {Q : A → Type 0} {p q : Walk A} → Alike n.nodes p q → Confined n any_numbers Q p → Same Whole p q
   part_same P C = and_same (P.same []) (confined_drawn n w.limited.nodes (body_with n rows cells) D C)
 
-  -- what a body runs behind its type lines
-  behind_same : Same Whole (behind_types n rows cells) (other_behind D n rows cells)
-  unfolding other_behind
-  behind_same =
-      let K = any_known n (body_with n rows cells) in
-      bind_same (part_same (leaf (params_adds n rows cells w _)) (params_confined K (refers n rows cells w) _ (fn_params n rows cells w)))
-      (λ u. bind_same (part_same typeck_alike (typeck_confined n rows cells w K))
-      (λ v. record {
-        by = λ s r. (nodes_same n w.limited.nodes (body_with n rows cells) D n.nodes).by s r.1;
-        holds = λ s r. (raws_kept ((resolve_nodes_adds n.nodes).larger s).kept r.0, (nodes_same n w.limited.nodes (body_with n rows cells) D n.nodes).holds s r.1);
-      }))
-
   -- before it each node has a place for its RAW, and no variable is drawn
-  start_whole : Whole (declared_state n rows cells)
+  pub start_whole : Whole (declared_state n rows cells)
   unfolding start blank
   start_whole = (
     record { places = let e : length (replicate {A = Option ℕ} 1024 none) ≡ 1024 = refl in omega (arith, e, w.limited.nodes); typed = tt },
     record { tracked = declared_track n rows cells w; origins = tt },
   )
-
-  -- a body runs as with any other answers in the place of the defaults
-  pub never_met : run (other_body D n rows cells) (first_state rows cells) ≡ run (type_body n rows cells) (first_state rows cells)
-  unfolding other_body
-  never_met =
-      let o : Own = blank (fn_line rows cells).output.0 in
-      let e : run (other_body D n rows cells) (first_state rows cells) ≡ run (other_behind D n rows cells) (declared_state n rows cells) =
-      rw (run_bind (declare_types rows cells n.types) (λ u. other_behind D n rows cells) (start fixed_types o), types_declared n rows cells w o) in
-      e ∙ sym (behind_same.by (declared_state n rows cells) start_whole) ∙ sym (body_behind n rows cells w o)
-
--- the variables in the state in which a body ends have their origins
-pub body_origins : (n : Counts) (rows cells : List ℕ) → WellFormed n rows cells → OriginsOf n.nodes (run (type_body n rows cells) (first_state rows cells)).1
-unfolding start blank
-body_origins n rows cells w =
-    rw (body_behind n rows cells w (blank (fn_line rows cells).output.0))
-    (run_origins Any n (behind_types n rows cells) (behind_types_confined n rows cells w (any_known n (body_with n rows cells))).by (declared_state n rows cells) tt)

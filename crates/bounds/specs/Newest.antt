@@ -1,26 +1,22 @@
 -- A well-formed body is refused with 12 or 13 only by its newest equation, at the node whose rule raised it. Assumes nothing.
-use Rattle.std.specs.Prelude.{◌≡◌, ◌⊎◌, List, ◌∷◌, Bool, true, false, ℕ, ◌≤◌, length}
-use Rattle.std.proofs.Math.Path.{refl, subst}
-use Rattle.std.proofs.Common.{sym, inl, inr, arith}
+use Rattle.std.specs.Prelude.{◌≡◌, ◌⊎◌, List, ◌∷◌, Bool, true, false, ℕ, ◌≤◌}
+use Rattle.std.proofs.Math.Path.{refl}
+use Rattle.std.proofs.Common.{inl, inr, arith}
 use Rattle.std.proofs.Math.Option.{Option, none, some}
 use Rattle.theory.specs.Rules.{Out, success, mismatch, refused12, refused13, dry, numbers_of, Pair, Res}
-use Rattle.theory.specs.Program.{Equation, done, refuse, draw, intern, equate, emit, mark, read, write, clip, drawn, emitted, written, refused, marking, raised, interned, solved, react, run}
+use Rattle.theory.specs.Program.{Equation, emitted, refused, raised, react, run}
 use Rattle.theory.specs.Basics.{All}
 use Rattle.theory.specs.Keep.{Ended}
-use Rattle.theory.specs.Demand.{track}
-use Rattle.theory.specs.Start.{start, start_track}
+use Rattle.theory.proofs.Demand.{track}
+use Rattle.theory.specs.Start.{start}
+use Rattle.theory.proofs.Start.{start_track}
 use Rattle.type_table.specs.Sound.{fixed_types}
 use Rattle.refs.specs.declared.Counts.{Counts}
 use Rattle.record.specs.declared.TypingError.{TypingError}
 use Rattle.record.specs.Own.{Own}
-use Rattle.record.specs.Steps.{State, Walk}
-use Rattle.resolve.specs.Resolve.{body_with, type_body}
+use Rattle.record.specs.Steps.{State}
+use Rattle.resolve.specs.Resolve.{type_body}
 use Rattle.well_formed.specs.Good.{WellFormed}
-use Rattle.bounds.specs.Declared.{declared, behind_types, body_behind}
-use Rattle.bounds.specs.Answered.{interned_stop}
-use Rattle.bounds.specs.Confined.{IsConfined, Any, any_numbers, any_state, any_known}
-use Rattle.bounds.specs.ConfinedWalk.{behind_types_confined}
-use Rattle.bounds.specs.Raised.{interned_log}
 
 -- ── definitions ──
 
@@ -42,14 +38,14 @@ abbrev pub RefusedBy : ℕ → ℕ → List Equation → Type 0
 RefusedBy k p l = ((k ≤ 11) × All Unrefused l) ⊎ ((o : Out) × ((numbers_of o).0 ≡ k) × NewestIs o p l)
 
 -- by the refusal of a state, if there is one; else no equation was refused
-abbrev StopBy : Option Pair → List Equation → Type 0
+abbrev pub StopBy : Option Pair → List Equation → Type 0
 StopBy none l = All Unrefused l
 StopBy (some r) l = RefusedBy r.0 r.1 l
 
 -- ── a run ──
 
 -- what follows the equation that has the result r
-react_stop : {A : Type 0} (n a b : ℕ) (r : Res) (o : Out) → r.0 ≡ o → (e : Out → TypingError) (g : Bool → State → Option A × State) (s : State) → s.stop ≡ none → All Unrefused s.log
+pub react_stop : {A : Type 0} (n a b : ℕ) (r : Res) (o : Out) → r.0 ≡ o → (e : Out → TypingError) (g : Bool → State → Option A × State) (s : State) → s.stop ≡ none → All Unrefused s.log
     → ((c : Bool) (t : State) → t.stop ≡ none → All Unrefused t.log → StopBy (g c t).1.stop (g c t).1.log)
     → let t = (react n o e g (raised n a b r s)).1 in StopBy t.stop t.log
 unfolding raised emitted refused
@@ -59,26 +55,10 @@ react_stop n a b r refused12 q e g s h l again = inr (refused12, refl, record { 
 react_stop n a b r refused13 q e g s h l again = inr (refused13, refl, record { newest = _; before = s.log; all = refl; node = refl; answer = q; rest = l })
 react_stop n a b r dry q e g s h l again = inr (dry, refl, record { newest = _; before = s.log; all = refl; node = refl; answer = q; rest = l })
 
--- a program that refuses by itself with 10 and 11 alone
-run_stop : {A : Type 0} (N : Counts) (p : Walk A) → IsConfined N any_numbers Any p → (s : State) → s.stop ≡ none → All Unrefused s.log → StopBy (run p s).1.stop (run p s).1.log
-unfolding run IsConfined drawn emitted written refused marking
-run_stop N (done a) c s h l = rw h l
-run_stop N (refuse k n) c s h l = inl (c.1, l)
-run_stop N (draw k o f) c s h l = run_stop N (f (length s.rows)) (c.1 (length s.rows) tt) (drawn k o s) h l
-run_stop N (intern t f) c s h l = run_stop N (f (interned t s).0) (c.3 (interned t s).0 tt) (interned t s).1 (rw (interned_stop t s) h) (rw (interned_log t s) l)
-run_stop N (equate n x y e f) c s h l =
-    let a = clip (length s.rows) x in
-    let b = clip (length s.rows) y in
-    react_stop n a b (solved a b s) (solved a b s).0 refl e (λ d t. run (f d) t) s h l (λ d t. run_stop N (f d) (c.4 d) t)
-run_stop N (emit e p) c s h l = run_stop N p c.0 (emitted e s) h l
-run_stop N (mark v p) c s h l = run_stop N p c (marking v s) h l
-run_stop N (read f) c s h l = run_stop N (f s) (c s (any_state s)) s h l
-run_stop N (write o p) c s h l = run_stop N p c.1 (written o s) h l
-
 -- ── a body ──
 
 -- a number above 11 of an answer that is not out of steps: 12 and 13 are these answers
-by_number : (k : ℕ) (p : ℕ) (l : List Equation) → RefusedBy k p l → All (λ (q : Equation). Ended q.answer) l → (12 ≡ k → NewestIs refused12 p l) × (13 ≡ k → NewestIs refused13 p l)
+pub by_number : (k : ℕ) (p : ℕ) (l : List Equation) → RefusedBy k p l → All (λ (q : Equation). Ended q.answer) l → (12 ≡ k → NewestIs refused12 p l) × (13 ≡ k → NewestIs refused13 p l)
 by_number k p l (inl q) d = (λ e. absurd (omega (arith, q.0)), λ e. absurd (omega (arith, q.0)))
 by_number k p l (inr (success, e, q)) d = (λ f. absurd (omega arith), λ f. absurd (omega arith))
 by_number k p l (inr (mismatch, e, q)) d = (λ f. absurd (omega arith), λ f. absurd (omega arith))
@@ -87,7 +67,7 @@ by_number k p l (inr (refused13, e, q)) d = (λ f. absurd (omega arith), λ f. q
 by_number k p l (inr (dry, e, q)) d = let r = rw q.all at d in let x = rw q.answer at r.0 in absurd x
 
 -- 10 and 11 are no number of an answer
-by_own : (k p : ℕ) (l : List Equation) → k ≤ 11 → RefusedBy k p l → All Unrefused l
+pub by_own : (k p : ℕ) (l : List Equation) → k ≤ 11 → RefusedBy k p l → All Unrefused l
 by_own k p l h (inl q) = q.1
 by_own k p l h (inr (success, e, q)) = rw q.all (rw q.answer refl, q.rest)
 by_own k p l h (inr (mismatch, e, q)) = rw q.all (rw q.answer refl, q.rest)
@@ -97,32 +77,9 @@ by_own k p l h (inr (dry, e, q)) = absurd (omega arith)
 
 module _ (n : Counts) (rows cells : List ℕ) (w : WellFormed n rows cells) (own : Own) where
   -- the state in which the body ends
-  abbrev end : State
+  abbrev pub end : State
   end = (run (type_body n rows cells) (start fixed_types own)).1
 
-  -- its refusal, if there is one, is as above
-  body_stop : StopBy end.stop end.log
-  unfolding start
-  body_stop =
-      subst (λ (r : Option (Unit {0}) × State). StopBy r.1.stop r.1.log) (sym (body_behind n rows cells w own))
-      (run_stop n (behind_types n rows cells) (behind_types_confined n rows cells w (any_known n (body_with n rows cells))).by (start (declared rows cells n.types) own) refl tt)
-
   -- no equation is out of steps
-  body_ended : All (λ (q : Equation). Ended q.answer) end.log
+  pub body_ended : All (λ (q : Equation). Ended q.answer) end.log
   body_ended = (track (type_body n rows cells) (start fixed_types own) (start_track fixed_types own refl)).tables.claim.ended
-
-  -- 12 is that of the newest equation
-  pub body_12 : (p : ℕ) → end.stop ≡ some (12, p) → NewestIs refused12 p end.log
-  body_12 p e = (by_number 12 p end.log (rw e at body_stop) body_ended).0 refl
-
-  -- and so is 13
-  pub body_13 : (p : ℕ) → end.stop ≡ some (13, p) → NewestIs refused13 p end.log
-  body_13 p e = (by_number 13 p end.log (rw e at body_stop) body_ended).1 refl
-
-  -- without a refusal no equation was refused,
-  pub body_unrefused : end.stop ≡ none → All Unrefused end.log
-  body_unrefused e = rw e at body_stop
-
-  -- and with a rule's own none
-  pub body_own_refusal : (k p : ℕ) → end.stop ≡ some (k, p) → k ≤ 11 → All Unrefused end.log
-  body_own_refusal k p e h = by_own k p end.log h (rw e at body_stop)

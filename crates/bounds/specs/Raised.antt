@@ -4,16 +4,9 @@ use Rattle.std.proofs.Math.Option.{Option, none, some}
 use Rattle.theory.specs.Rules.{Shape, mismatch}
 use Rattle.theory.specs.Program.{Equation, done, refuse, draw, intern, equate, emit, mark, read, write, clip, first_equal, sane, drawn, appended, emitted, written, refused, marking, raised, pooled, intern_if, interned, solved, react_cases, run}
 use Rattle.theory.specs.Basics.{All}
-use Rattle.theory.specs.Start.{start}
-use Rattle.type_table.specs.Sound.{fixed_types}
 use Rattle.refs.specs.declared.Counts.{Counts}
-use Rattle.record.specs.Own.{Own}
 use Rattle.record.specs.Steps.{State, Walk}
-use Rattle.resolve.specs.Resolve.{body_with, type_body}
-use Rattle.well_formed.specs.Good.{WellFormed}
-use Rattle.bounds.specs.Declared.{declared, behind_types, body_behind}
-use Rattle.bounds.specs.Confined.{IsConfined, Any, any_numbers, any_state, any_known}
-use Rattle.bounds.specs.ConfinedWalk.{behind_types_confined}
+use Rattle.bounds.specs.Confined.{IsConfined, Any, any_numbers, any_state}
 
 -- each equation was raised at one of N nodes
 abbrev pub AtNodes : ℕ → List Equation → Type 0
@@ -33,7 +26,7 @@ interned_log t s = by (sane (length s.rows) t)
     by false = refl
 
 -- a program whose rules are those of N nodes raises each equation at one of them
-run_raised : {A : Type 0} (N : Counts) (p : Walk A) → IsConfined N any_numbers Any p → (s : State) → AtNodes N.nodes s.log → AtNodes N.nodes (run p s).1.log
+pub run_raised : {A : Type 0} (N : Counts) (p : Walk A) → IsConfined N any_numbers Any p → (s : State) → AtNodes N.nodes s.log → AtNodes N.nodes (run p s).1.log
 unfolding run IsConfined drawn emitted written refused marking raised
 run_raised N (done a) c s h = h
 run_raised N (refuse k n) c s h = h
@@ -49,10 +42,3 @@ run_raised N (emit e p) c s h = run_raised N p c.0 (emitted e s) h
 run_raised N (mark v p) c s h = run_raised N p c (marking v s) h
 run_raised N (read f) c s h = run_raised N (f s) (c s (any_state s)) s h
 run_raised N (write o p) c s h = run_raised N p c.1 (written o s) h
-
--- so a body
-pub body_raised : (n : Counts) (rows cells : List ℕ) → WellFormed n rows cells → (own : Own) → AtNodes n.nodes (run (type_body n rows cells) (start fixed_types own)).1.log
-unfolding start
-body_raised n rows cells w own =
-    rw (body_behind n rows cells w own)
-    (run_raised n (behind_types n rows cells) (behind_types_confined n rows cells w (any_known n (body_with n rows cells))).by (start (declared rows cells n.types) own) tt)

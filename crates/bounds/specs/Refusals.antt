@@ -1,23 +1,16 @@
 -- A well-formed body is refused with 10 to 13, at one of its nodes. Assumes nothing.
-use Rattle.std.specs.Prelude.{◌≡◌, List, Bool, true, false, ℕ, length}
+use Rattle.std.specs.Prelude.{Bool, true, false, ℕ, length}
 use Rattle.std.proofs.Math.Option.{Option, none, some}
 use Rattle.theory.specs.Rules.{Out, mismatch, Pair}
 use Rattle.theory.specs.Program.{done, refuse, draw, intern, equate, emit, mark, read, write, clip, drawn, emitted, written, refused, marking, raised, interned, solved, react, react_cases, run}
-use Rattle.theory.specs.Start.{start}
-use Rattle.type_table.specs.Sound.{fixed_types}
 use Rattle.refs.specs.declared.Counts.{Counts}
 use Rattle.record.specs.declared.TypingError.{TypingError}
-use Rattle.record.specs.Own.{Own}
 use Rattle.record.specs.Steps.{State, Walk}
-use Rattle.resolve.specs.Resolve.{body_with, type_body}
-use Rattle.well_formed.specs.Good.{WellFormed}
-use Rattle.bounds.specs.Declared.{declared, behind_types, body_behind}
 use Rattle.bounds.specs.Answered.{interned_stop}
-use Rattle.bounds.specs.Confined.{Placed, IsConfined, Any, any_numbers, any_state, any_known}
-use Rattle.bounds.specs.ConfinedWalk.{behind_types_confined}
+use Rattle.bounds.specs.Confined.{Placed, IsConfined, Any, any_numbers, any_state}
 
 -- a refusal, if there is one, is such as `Placed` says
-abbrev PlacedBy : ℕ → Option Pair → Type 0
+abbrev pub PlacedBy : ℕ → Option Pair → Type 0
 PlacedBy N none = Unit {0}
 PlacedBy N (some r) = Placed N r.0 r.1
 
@@ -28,7 +21,7 @@ unfolding emitted refused
 react_placed N n o e g s p q h again = react_cases (λ r. PlacedBy N r.1.stop) n o e g s (again true s h) (again false (emitted (e mismatch) s) h) p q
 
 -- a program that refuses with 10 to 13 at one of N nodes leaves no other refusal
-run_placed : {A : Type 0} (N : Counts) (p : Walk A) → IsConfined N any_numbers Any p → (s : State) → PlacedBy N.nodes s.stop → PlacedBy N.nodes (run p s).1.stop
+pub run_placed : {A : Type 0} (N : Counts) (p : Walk A) → IsConfined N any_numbers Any p → (s : State) → PlacedBy N.nodes s.stop → PlacedBy N.nodes (run p s).1.stop
 unfolding run IsConfined drawn emitted written refused marking raised
 run_placed N (done a) c s h = h
 run_placed N (refuse k n) c s h = c.0
@@ -42,15 +35,3 @@ run_placed N (emit e p) c s h = run_placed N p c.0 (emitted e s) h
 run_placed N (mark v p) c s h = run_placed N p c (marking v s) h
 run_placed N (read f) c s h = run_placed N (f s) (c s (any_state s)) s h
 run_placed N (write o p) c s h = run_placed N p c.1 (written o s) h
-
-module _ (n : Counts) (rows cells : List ℕ) (w : WellFormed n rows cells) (own : Own) where
-  -- a body leaves no other refusal
-  body_stop : PlacedBy n.nodes (run (type_body n rows cells) (start fixed_types own)).1.stop
-  unfolding start
-  body_stop =
-      rw (body_behind n rows cells w own)
-      (run_placed n (behind_types n rows cells) (behind_types_confined n rows cells w (any_known n (body_with n rows cells))).by (start (declared rows cells n.types) own) tt)
-
-  -- so its number is 10 to 13 and its place is a node
-  pub body_placed : (k p : ℕ) → (run (type_body n rows cells) (start fixed_types own)).1.stop ≡ some (k, p) → Placed n.nodes k p
-  body_placed k p e = rw e at body_stop

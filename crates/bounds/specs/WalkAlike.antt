@@ -29,21 +29,21 @@ use Rattle.record.specs.declared.Span.{Span}
 use Rattle.record.specs.Own.{typed}
 use Rattle.record.specs.Steps.{State, Walk, or_nil, change, set_node_type, new_infer_var, param_type, make_lambda, for_each}
 use Rattle.rules.specs.Rules as rule
-use Rattle.walk.specs.Walk.{Visit, two, typeck_expr_bin_op, typeck_assign, typeck_op_assign, typeck_expr_un_op, typeck_expr_field, element, elements, rest, typeck_expr_list, index_of, typeck_expr_index, typeck_local, typeck_stmt, stmt, stmts, tail, typeck_block, block_of, block_at_lem, typeck_else, typeck_branches, typeck_expr_if, typeck_loop, arg, args, verify_arguments_for_call, call_of, typeck_call, verify_arguments_for_method_call, meth_call_of, typeck_expr_meth_call, typeck_return, lambda_body, typeck_lambda, rule_of, typeck_rule, typeck_expr}
+use Rattle.walk.specs.Walk.{Visit, two, typeck_expr_bin_op, typeck_assign, typeck_op_assign, typeck_expr_un_op, typeck_expr_field, element, elements, rest, typeck_expr_list, index_of, typeck_expr_index, typeck_local, typeck_stmt, stmt, stmts, tail, typeck_block, block_of, block_at_lem, typeck_else, typeck_branches, typeck_expr_if, typeck_loop, arg, args, verify_arguments_for_call, call_of, typeck_call, verify_arguments_for_method_call, meth_call_of, typeck_expr_meth_call, typeck_return, lambda_body, typeck_lambda, rule_of}
 use Rattle.resolve.specs.Resolve.{body_with}
 use Rattle.well_formed.specs.Good.{WellFormed, kind_in, behind}
 use Rattle.well_formed.specs.UsedOnce.{child_in}
-use Rattle.well_formed.specs.Weight.{node_good, node_level}
-use Rattle.well_formed.specs.Levels.{child_fewer}
-use Rattle.bounds.specs.Adds.{Kept, nothing_then}
-use Rattle.bounds.specs.Steps.{one_var, done_adds, refuse_adds, set_node_type_adds, new_infer_var_adds, make_lambda_adds}
+use Rattle.well_formed.specs.Weight.{node_good}
+use Rattle.well_formed.proofs.Levels.{child_fewer}
+use Rattle.bounds.specs.Adds.{Kept}
+use Rattle.bounds.specs.Steps.{one_var, done_adds, refuse_adds, new_infer_var_adds, make_lambda_adds}
 use Rattle.bounds.specs.Steps as steps
 use Rattle.bounds.specs.Weights.{pick_by, is_node, is_optional, kind_by, first_child, items_at, first_field, Part, node_part, optional_part, item_part}
 use Rattle.bounds.specs.Rules as rules
 use Rattle.bounds.specs.Calls as calls
 use Rattle.bounds.specs.Refers.{numbers_all}
 use Rattle.bounds.specs.Alike.{Same, then_same, bind_same, Raws, raws_kept, Alike, leaf, leaf_by, both_same, bind_alike, each_alike}
-use Rattle.bounds.specs.Defaults.{Defaults, or_other, other_block, other_if, other_loop, other_input, other_lambda, other_rule, other_expr}
+use Rattle.bounds.specs.Defaults.{Defaults, or_other, other_block, other_if, other_loop, other_input, other_lambda, other_rule}
 
 -- ── the params of a lambda have a RAW ──
 
@@ -349,11 +349,11 @@ module _ (n : Counts) (rows cells : List ℕ) (w : WellFormed n rows cells) (D :
         block_at_alike y P.lower (omega (arith, child_fewer n rows cells w x i y h P.child)) (stands_block (behind n key_node x) (kind_at (form_at f) i) y rows cells q (part_stands x h l f e P))
 
     -- the body
-    abbrev b : Body
+    abbrev pub b : Body
     b = body_with n rows cells
 
     -- the rule of an expression of at most one level more
-    rule_alike : is_expr (form_in rows (nodes_at + x)) ≡ true → Alike n.nodes (rule_of b E x (node_at rows cells x)) (other_rule D b F x (node_at rows cells x))
+    pub rule_alike : is_expr (form_in rows (nodes_at + x)) ≡ true → Alike n.nodes (rule_of b E x (node_at rows cells x)) (other_rule D b F x (node_at rows cells x))
     unfolding node_at node_of form_at forms kind_at is_node is_optional is_plain refers_to is_expr typeck_expr_bin_op typeck_assign typeck_op_assign typeck_expr_un_op typeck_expr_field typeck_expr_index typeck_call typeck_expr_meth_call
     rule_alike expr =
         by 7 _ _ (λ e. leaf (done_adds _))
@@ -401,13 +401,3 @@ module _ (n : Counts) (rows cells : List ℕ) (w : WellFormed n rows cells) (D :
 
         first : (f : ℕ) → form_in rows (nodes_at + x) ≡ f → 0 < (form_at f).4 → is_node (kind_at (form_at f) 0) ≡ true → is_plain (kind_at (form_at f) 0) ≡ true → Alike n.nodes (E (first_child rows cells x)) (F (first_child rows cells x))
         first f e a t q = node_alike x h l f e 0 _ a t q (first_field rows cells x)
-
-module _ (n : Counts) (rows cells : List ℕ) (w : WellFormed n rows cells) (D : Defaults) where
-  -- an expression is typed alike with as many levels as it has, or more
-  pub expr_alike : (k x : ℕ) → x < n.nodes → levels_in rows (nodes_at + x) ≤ k → is_expr (form_in rows (nodes_at + x)) ≡ true → Alike n.nodes (typeck_expr (body_with n rows cells) k x) (other_expr D (body_with n rows cells) k x)
-  unfolding typeck_expr typeck_rule other_expr
-  expr_alike zero x h l q = absurd (omega (arith, node_level n rows cells w x h))
-  expr_alike (suc k) x h l q =
-      bind_alike
-      (rule_alike n rows cells w D k (typeck_expr (body_with n rows cells) k) (other_expr D (body_with n rows cells) k) (λ y b m c. expr_alike k y b m c) x h l q)
-      (λ t. leaf (nothing_then _ (set_node_type_adds x t) (λ u. done_adds t)))

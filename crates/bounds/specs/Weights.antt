@@ -12,7 +12,8 @@ use Rattle.nodes.specs.declared.Items.{Items}
 use Rattle.nodes.specs.Nodes.{count_behind, behind, item}
 use Rattle.well_formed.specs.Good.{WellFormed, written_as}
 use Rattle.well_formed.specs.UsedOnce.{has_child, child_in, ChildAt}
-use Rattle.well_formed.specs.Weight.{sum_to, part_of, below, weight, weight_tree, node_good, child_lower, body_in, fn_count, fn_child_lower}
+use Rattle.well_formed.specs.Weight.{sum_to, part_of, below, weight, node_good, child_lower, body_in, fn_count, fn_child_lower}
+use Rattle.well_formed.proofs.Weight.{weight_tree}
 use Rattle.bounds.specs.Steps.{sum_from}
 
 -- ── choices ──

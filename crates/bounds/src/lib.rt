@@ -1,1 +1,2 @@
 // What the tables of a walk hold at most: definitions and theorems, no code.
+#![tactic(auto)]

@@ -29,11 +29,11 @@ use Rattle.record.specs.Runs.{rows_are}
 use Rattle.record.specs.Regions.{length_errors}
 use Rattle.resolve.specs.Body.{last_state, BodyTyped, TypedBy}
 use Rattle.well_formed.specs.Good.{WellFormed}
-use Rattle.well_formed.specs.Claims.{when_1, when_2, well_formed_on_0}
-use Rattle.bounds.specs.Claims.{typed_in_memory, never_full, equations_bound, made_count, made_inputs}
+use Rattle.well_formed.proofs.Claims.{when_1, when_2, well_formed_on_0}
+use Rattle.bounds.proofs.Claims.{typed_in_memory, never_full, equations_bound, made_count, made_inputs}
 use Rattle.errors.specs.declared.ErrorRow.{ErrorRow}
 use Rattle.errors.specs.Rows.{row_in, filled_to, zero_row}
-use Rattle.errors.specs.Filling.{filled_state, filled_none}
+use Rattle.errors.proofs.Filling.{filled_state, filled_none}
 use Rattle.tables.specs.Rows.{padded, zeros, cells_of}
 use Rattle.tables.specs.Types.{shape_inputs, inputs_of}
 use Rattle.answers.specs.declared.Answer.{Answer}

@@ -21,8 +21,8 @@ use Rattle.record.specs.Steps.{State}
 use Rattle.resolve.specs.Resolve.{type_body}
 use Rattle.resolve.specs.Body.{first_state, last_state}
 use Rattle.well_formed.specs.Good.{WellFormed}
-use Rattle.well_formed.specs.Claims as reader
-use Rattle.bounds.specs.Claims.{refusal_number_and_place}
+use Rattle.well_formed.proofs.Claims as reader
+use Rattle.bounds.proofs.Claims.{refusal_number_and_place}
 use Rattle.answers.specs.declared.Totals.{Totals}
 use Rattle.answers.specs.declared.Answer.TheVariants as answer
 use Rattle.answers.specs.Lent.{Lent, cleared, too_short, Held, held, totals, filled}

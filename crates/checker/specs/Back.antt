@@ -17,7 +17,7 @@ use Rattle.well_formed.specs.Good.{WellFormed}
 use Rattle.well_formed.specs.Zeros.{zero_at}
 use Rattle.bounds.specs.Declared.{line_shape}
 use Rattle.bounds.specs.Confined.{is_made}
-use Rattle.bounds.specs.Claims.{all_types, made_count, made_forms, variables}
+use Rattle.bounds.proofs.Claims.{all_types, made_count, made_forms, variables}
 use Rattle.tables.specs.Rows.{padded}
 use Rattle.tables.specs.Types.{type_table}
 use Rattle.tables.specs.Read.{made_at}

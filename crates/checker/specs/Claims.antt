@@ -23,7 +23,7 @@ use Rattle.bounds.specs.Causes.{Pairwise, Caused}
 use Rattle.bounds.specs.Ended.{EndedIn}
 use Rattle.bounds.specs.Instances.{WayOf}
 use Rattle.bounds.specs.Defaults.{Defaults, other_body}
-use Rattle.bounds.specs.Claims as walk
+use Rattle.bounds.proofs.Claims as walk
 use Rattle.errors.specs.Rows.{error_rows}
 use Rattle.tables.specs.Read.{made_at}
 use Rattle.answers.specs.declared.Totals.{Totals}

@@ -13,10 +13,10 @@ use Rattle.body.specs.declared.Answer.{Answer as Reading}
 use Rattle.body.specs.declared.Answer.TheVariants as reading
 use Rattle.well_formed.specs.Good.{WellFormed}
 use Rattle.well_formed.specs.Zeros.{ZeroBehind}
-use Rattle.well_formed.specs.Claims as reader
+use Rattle.well_formed.proofs.Claims as reader
 use Rattle.bounds.specs.Confined.{is_made}
 use Rattle.bounds.specs.Instances.{WayOf}
-use Rattle.bounds.specs.Claims as walk
+use Rattle.bounds.proofs.Claims as walk
 use Rattle.errors.specs.Rows.{error_rows}
 use Rattle.tables.specs.Read.{made_at}
 use Rattle.answers.specs.declared.Totals.{Totals}

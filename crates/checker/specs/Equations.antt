@@ -14,7 +14,7 @@ use Rattle.record.specs.Steps.{State}
 use Rattle.bounds.specs.Newest.{Unrefused, NewestIs}
 use Rattle.bounds.specs.Causes.{Pairwise, Caused}
 use Rattle.bounds.specs.Ended.{EndedIn}
-use Rattle.bounds.specs.Claims as walk
+use Rattle.bounds.proofs.Claims as walk
 use Rattle.answers.specs.declared.Totals.{Totals}
 use Rattle.answers.specs.declared.Answer.TheVariants as answer
 use Rattle.answers.specs.Lent.{Lent}

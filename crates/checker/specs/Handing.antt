@@ -44,7 +44,7 @@ module _ (κ κ' : Lft) (q q' : Share) (x : MutBor (List ErrorRow)) (y : MutBor 
     -- what a caller has after it: what says the last errors and the last memory, and that they are handed back
     abbrev pub Given-back : Val → List ErrorRow × List ℕ → Item 𝓤
     Given-back w l = given ((w ∷ [] ≡ vunit ∷ []) × ((length l.0 ≡ length x.now) × ((length l.1 ≡ length y.now) × HandsErrors d x.now y.now l.0 l.1)))
-        (‵ (flft κ q) ⊛ ‵ (flft κ' q') ⊛ ‵ (finally E.the_row x.name l.0) ⊛ ‵ (finally u16 y.name l.1))
+        (‵ (flft κ q) ⊛ ‵ (flft κ' q') ⊛ ‵ (finally E.the_row x.ghost_name l.0) ⊛ ‵ (finally u16 y.ghost_name l.1))
 
     -- what it asks
     pub goes_hand : Is N.the_row d (v ∷ [])
@@ -59,8 +59,8 @@ module _ (κ κ' : Lft) (q q' : Share) (x : MutBor (List ErrorRow)) (y : MutBor 
         qed 𝓛 (later (some (λ (r : Unit {0}). ((‵ (flft κ q) ⊛ ‵ (flft κ' q') ⊛ ‵ ftrue) ⊛ ‵ (unit.own_val r (w ∷ []))) ⊛ raw (ensured 𝓛 hand.ended (hand.clauses 𝓛 mem run) (κ, (κ', tt)) (x, (y, (d, tt))) tt r))) ∷ []) ∵
         updating ! $ await ! tt $ pick ! (λ r. split ! $ move ! (1 ∷ []) $
         use1 𝓛 (some (λ (zs : List ErrorRow × (List ℕ × (Unit {0} × Unit {0}))). ‵ (lasts hand.ended (κ, (κ', tt)) (x, (y, (d, tt))) zs) ⊛ raw (fact 𝓤 (HandsErrors d x.now y.now zs.0 zs.1.0)))) (id⊢ 𝓤 _) $ pick ! (λ zs.
-        split ! $ move ! (1 ∷ []) $ heard ! (HandsErrors d x.now y.now zs.0 zs.1.0) (λ e. fsplit ! $ fsplit ! $ move ! (1 ∷ []) $ feq_l ! (λ lu. move ! (1 ∷ []) $ fsplit ! $ fsplit ! $ move ! (1 ∷ []) $ feq_l ! (λ lv.
-        -- [the last memory; true; the last errors; the tokens and the result]
-        move ! (3 ∷ []) $ split ! $ move ! (1 ∷ []) $ feq_l ! (λ u. split ! $ move ! (1 ∷ []) $ split ! $
-        -- [κ'; true; κ; the last memory; true; the last errors]
-        at_once ! $ show ! (λ (l : List ErrorRow × List ℕ). mean 𝓛 (Given-back w l)) (zs.0, zs.1.0) $ checks ! (u, (lu, (lv, e))) $ keep ! (2 ∷ 0 ∷ 5 ∷ 3 ∷ []) $ done !))))))
+        split ! $ move ! (1 ∷ []) $ heard ! (HandsErrors d x.now y.now zs.0 zs.1.0) (λ e. fsplit ! $ fsplit ! $ fsplit ! $ move ! (1 ∷ []) $ feq_l ! (λ lu. move ! (2 ∷ []) $ fsplit ! $ fsplit ! $ fsplit ! $ move ! (1 ∷ []) $ feq_l ! (λ lv.
+        -- [the last memory; its borrow; true; the last errors; their borrow; the tokens and the result]
+        move ! (5 ∷ []) $ split ! $ move ! (1 ∷ []) $ feq_l ! (λ u. split ! $ move ! (1 ∷ []) $ split ! $
+        -- [κ'; true; κ; the last memory; its borrow; true; the last errors; their borrow]
+        at_once ! $ show ! (λ (l : List ErrorRow × List ℕ). mean 𝓛 (Given-back w l)) (zs.0, zs.1.0) $ checks ! (u, (lu, (lv, e))) $ keep ! (2 ∷ 0 ∷ 6 ∷ 3 ∷ []) $ done !))))))

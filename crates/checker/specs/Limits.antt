@@ -15,7 +15,7 @@ use Rattle.record.specs.Steps.{State}
 use Rattle.resolve.specs.Body.{last_state}
 use Rattle.well_formed.specs.Good.{WellFormed}
 use Rattle.well_formed.specs.Zeros.{ZeroBehind, zero_at}
-use Rattle.bounds.specs.Claims.{variables_1024, made_count, errors_4096, equations_bound}
+use Rattle.bounds.proofs.Claims.{variables_1024, made_count, errors_4096, equations_bound}
 use Rattle.tables.specs.Rows.{padded, zeros}
 use Rattle.tables.specs.RowLaws.{length_cells, length-padded}
 use Rattle.tables.specs.Nodes.{node_row, node_table}

@@ -1,5 +1,7 @@
 // `check`: a file's bytes to the answer and the lent tables. It reads the file, types the body, and hands back declarations, nodes, variables,
 // made types, errors and equations, used rows first and zeros behind; on a refusal every table is zero throughout.
+#![tactic(auto)]
+
 ghost use Rattle.std.specs.Prelude.{◌≡◌, []};
 ghost use Rattle.body.specs.Body.{rows_length, cells_length};
 ghost use Rattle.answers.specs.Lent.{lent, held};
@@ -74,7 +76,7 @@ fn walk_file(s: &[u8], rows: &mut [u16], cells: &mut [u16], memory: &mut [u16]) 
 }
 
 // What a check came to: its answer, and the record with which the walk ended.
-#[derive(Drop)]
+#[derive(Clone, Copy)]
 pub struct Ended {
     pub answer: Answer,
     pub record: Record,

@@ -22,7 +22,7 @@ use Rattle.record.specs.Steps.{State}
 use Rattle.record.specs.Encodes.{Encodes}
 use Rattle.errors.specs.declared.ErrorRow.{ErrorRow}
 use Rattle.errors.specs.Rows.{row_in, zero_row}
-use Rattle.bounds.specs.Claims.{equations_bound, equations_at_nodes, answered_0}
+use Rattle.bounds.proofs.Claims.{equations_bound, equations_at_nodes, answered_0}
 use Rattle.answers.specs.declared.Answer.{Answer}
 use Rattle.answers.specs.declared.Answer.TheVariants as answer
 use Rattle.answers.specs.Lent.{Lent, lent, too_short, Held, held, lent_with, handed_with, errors_handed, memory_ended, memory_length}

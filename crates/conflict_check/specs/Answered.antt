@@ -3,8 +3,10 @@ use Rattle.std.specs.Prelude.{◌≡◌, refl, List, true, ℕ}
 use Rattle.std.proofs.Common.{ap, ◌∙◌, inl, inr}
 use Rattle.std.proofs.Math.Option.{Option, some}
 use Rattle.theory.specs.Basics.{clash, eqb-true}
-use Rattle.theory.specs.Demand.{Claim, track}
-use Rattle.theory.specs.Start.{start, start_track}
+use Rattle.theory.specs.Demand.{Claim}
+use Rattle.theory.proofs.Demand.{track}
+use Rattle.theory.specs.Start.{start}
+use Rattle.theory.proofs.Start.{start_track}
 use Rattle.type_table.specs.Sound.{fixed_types}
 use Rattle.refs.specs.declared.Counts.{Counts}
 use Rattle.nodes.specs.Nodes.{fn_line}
@@ -14,7 +16,7 @@ use Rattle.record.specs.Own.{blank}
 use Rattle.record.specs.Steps.{State}
 use Rattle.resolve.specs.Resolve.{type_body}
 use Rattle.resolve.specs.Body.{last_state}
-use Rattle.bounds.specs.Claims.{answered_0}
+use Rattle.bounds.proofs.Claims.{answered_0}
 use Rattle.answers.specs.declared.Answer.{Answer}
 use Rattle.answers.specs.declared.Answer.TheVariants as answer
 use Rattle.answers.specs.Lent.{Lent}

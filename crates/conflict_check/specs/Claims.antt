@@ -22,7 +22,7 @@ use Rattle.conflict_theory.specs.Worked.{until_failed, in_order, sides_at, numbe
 use Rattle.conflict_theory.specs.Plains.{all_plain, all_exactly}
 use Rattle.conflict_theory.specs.Shortest.{shortest_of, Shortest}
 use Rattle.conflict_theory.specs.CommonSolution.{NoneFails, AllMet}
-use Rattle.conflict_theory.specs.Claims as theory
+use Rattle.conflict_theory.proofs.Claims as theory
 use Rattle.conflict_set.specs.declared.Sought.{Sought}
 use Rattle.conflict_set.specs.Text.{sought_text, text_by, text_of, told_of}
 use Rattle.conflict_check.specs.declared.Quarreled.{Quarreled}

@@ -1,5 +1,7 @@
 // `quarrel`: checks a file, and writes the minimal conflict among its equations (document 02 f), or a shortest one (document 02 n), into a lent
 // output.
+#![tactic(auto)]
+
 ghost use Rattle.std.specs.Prelude.{◌≡◌, []};
 ghost use Rattle.answers.specs.Lent.{lent};
 ghost use Rattle.conflict_check.specs.Quarrel.{checked_answer, quarreled_by, told, quarrel_of};
@@ -11,7 +13,7 @@ use errors::ErrorRow;
 use record::Record;
 
 // What is answered, with Check's own answer.
-#[derive(Drop)]
+#[derive(Clone, Copy)]
 pub enum Quarreled {
     // Check's own refusal, 12 excepted.
     Refused(Answer),

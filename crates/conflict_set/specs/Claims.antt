@@ -22,7 +22,8 @@ use Rattle.conflict_theory.specs.Deletion.{left_part}
 use Rattle.conflict_theory.specs.Worked.{until_failed, in_order, nodes_in_order, sides_at, numbers, PlainPair, conflict_of, None13, until_failed_part, from_below}
 use Rattle.conflict_theory.specs.Plains.{are_plain, all_plain, all_exactly}
 use Rattle.conflict_theory.specs.Shortest.{shortest_of}
-use Rattle.conflict_theory.specs.Claims as theory
+use Rattle.conflict_theory.specs.Claims as named
+use Rattle.conflict_theory.proofs.Claims as theory
 use Rattle.lex.specs.Text.{text}
 use Rattle.output.specs.Output.{number_text, newline}
 use Rattle.conflict_set.specs.declared.Lines.{Lines}
@@ -93,7 +94,7 @@ module _ (m : List ℕ) (c : Record) (s : State) (enc : Encodes m c s) (room : l
       same_lines l r p = set_same (λ i. i < length (in_order k)) (line_in m c.counts l) (line_of l k) (lines_are l) r (numbers_all r p)
 
       set_part : Part set (numbers (in_order k))
-      set_part = left_part (Kinded s.kinds) (theory.Met s.rows s.kinds s.mem.binds s.log claim calm k e plain) (numbers (in_order k)) set (theory.conflict_left s.rows s.kinds s.mem.binds s.log claim calm k e plain)
+      set_part = left_part (Kinded s.kinds) (named.Met s.rows s.kinds s.mem.binds s.log claim calm k e plain) (numbers (in_order k)) set (theory.conflict_left s.rows s.kinds s.mem.binds s.log claim calm k e plain)
 
       -- n)'s answer
       abbrev best : ℕ → List ℕ × ℕ

@@ -1,6 +1,8 @@
 // The minimal conflict among the equations of a walk (document 02 f), and a shortest one (document 02 n), over the memory of the walk: its
 // types, its variables and its log. The bindings and marks of the walk are lost; nothing else in the memory changes, so no second memory is
 // needed.
+#![tactic(auto)]
+
 ghost use Rattle.std.specs.Prelude.{◌≡◌, true, false, ◌+◌, ◌-◌, ◌*◌, ◌≤◌, ◌<◌, ltb, leb};
 ghost use Rattle.std.proofs.Math.Option.{none};
 ghost use Rattle.output.specs.Output.{Appends};
@@ -247,7 +249,7 @@ fn solve(m: &mut [u16], c: Counts, set: &[u16], k: u16) -> bool
 // ── the scans ──
 
 // Where adding stopped.
-#[derive(Drop)]
+#[derive(Clone, Copy)]
 enum Stop {
     // At this equation there was no solution any more.
     At(u16),
@@ -306,7 +308,7 @@ fn scan(m: &mut [u16], c: Counts, n: u16, set: &mut [u16]) -> u16
 // ── the search: one equation more, and taken back ──
 
 // Where a row leads.
-#[derive(Drop)]
+#[derive(Clone, Copy)]
 enum Lead {
     // On to this row.
     On(TypeId),
@@ -370,7 +372,7 @@ fn bound_of(m: &[u16], c: Counts, a: u16, b: u16) -> u16
 }
 
 // What came of one equation more.
-#[derive(Drop)]
+#[derive(Clone, Copy)]
 enum Pushed {
     // There still is a solution, and at most this variable was bound.
     Bound(u16),
@@ -545,7 +547,7 @@ fn follow(set: &mut [u16], p: u16, k: u16, f: u16)
 }
 
 // What came of a set.
-#[derive(Drop)]
+#[derive(Clone, Copy)]
 enum Advanced {
     // The next one, which differs from this place on.
     From(u16),
@@ -578,7 +580,7 @@ fn advance(set: &mut [u16], k: u16, n: u16) -> Advanced
 }
 
 // What came of a size.
-#[derive(Drop)]
+#[derive(Clone, Copy)]
 enum Tried {
     // The set has no solution.
     Found,
@@ -643,7 +645,7 @@ fn tries(
 }
 
 // The answer of a search: whether a smaller set was found, and `below=`.
-#[derive(Drop)]
+#[derive(Clone, Copy)]
 struct Searched {
     found: bool,
     below: u16,
@@ -699,7 +701,7 @@ fn search(
 // ── text ──
 
 // What the line of an equation has: its number; or with it the node whose rule raised the equation, and its two sides.
-#[derive(Drop)]
+#[derive(Clone, Copy)]
 pub enum Lines {
     Numbers,
     Places,
@@ -747,7 +749,7 @@ fn put_set(out: &mut [u8], m: &[u16], c: Counts, l: Lines, set: &[u16], k: u16) 
 }
 
 // How it went.
-#[derive(Drop)]
+#[derive(Clone, Copy)]
 pub enum Outcome {
     // 0: the text ends here.
     Written(usize),
@@ -828,7 +830,7 @@ fn put_shortest(m: &mut [u16], c: Counts, n: u16, l: Lines, b: u64, out: &mut [u
 }
 
 // What is sought.
-#[derive(Drop)]
+#[derive(Clone, Copy)]
 pub enum Sought {
     // The minimal conflict that f) leaves.
     Minimal(Lines),

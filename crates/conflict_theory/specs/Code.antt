@@ -15,8 +15,8 @@ use Rattle.theory.specs.Solve.{solves}
 use Rattle.conflict_theory.specs.Sets.{In, Part, all_part, all_both, all_first, all_second, part_behind, part_later, part_first, part_on, in_right}
 use Rattle.conflict_theory.specs.Deletion.{Solvable, Unsolvable}
 use Rattle.conflict_theory.specs.Scan.{Cut, here, keep, back, scan, same_answer}
-use Rattle.conflict_theory.specs.Subsets.{subsets, next, lead, Chain, subsets_first, subsets_chain}
-use Rattle.conflict_theory.specs.Search.{Outcome, found, out, through, tested, tries, onward_to, search}
+use Rattle.conflict_theory.specs.Subsets.{next}
+use Rattle.conflict_theory.specs.Search.{Outcome, out, through, tested, onward_to}
 use Rattle.conflict_theory.specs.Test.{is_success, blank, unified, ok}
 use Rattle.conflict_theory.specs.Worked.{from}
 
@@ -63,33 +63,6 @@ module _ (ok : List ℕ → Bool) (n : ℕ) where
   unfoldable pub search_in : ℕ → ℕ → ℕ → List ℕ → List ℕ × ℕ
   search_in s zero b f = (f, s)
   search_in s (suc k) b f = onward_to ok (λ c. search_in (suc s) k c f) s f (tries_in b (from 0 s))
-
--- ── proofs: the search ──
-
-module _ (ok : List ℕ → Bool) (n : ℕ) where
-  tries_same : (b : ℕ) (c : List ℕ) (cs : List (List ℕ)) → Chain n (c ∷ cs) none → tries_in ok n b c ≡ tries ok b (c ∷ cs)
-  unfolding tries_in tries
-  tries_same zero c cs h = refl
-  tries_same (suc b) c [] h = rw h.0 refl
-  tries_same (suc b) c (d ∷ cs) h = rw (h.0, tries_same b d cs h.1) refl
-
-  tries_all : (b s : ℕ) → s ≤ n → tries_in ok n b (from 0 s) ≡ tries ok b (subsets s (from 0 n))
-  tries_all b s h = by (subsets s (from 0 n)) (subsets_chain s 0 n n (omega arith)) (subsets_first s 0 n h)
-    where
-      by : (l : List (List ℕ)) → Chain n l none → lead l none ≡ some (from 0 s) → tries_in ok n b (from 0 s) ≡ tries ok b l
-      by [] h e = clash (cc)
-      by (c ∷ l) h e = let q : c ≡ from 0 s = cc in rw (← q) (tries_same b c l h)
-
-  -- the search goes through the subsets of all numbers below n
-  pub search_same : (k s b : ℕ) (f : List ℕ) → s + k ≤ suc n → search_in ok n s k b f ≡ search ok s k b (from 0 n) f
-  unfolding search_in search
-  search_same zero s b f h = refl
-  search_same (suc k) s b f h = rw (tries_all b s (omega arith)) (by (tries ok b (subsets s (from 0 n))) (λ d. search_same k (suc s) d f (omega arith)))
-    where
-      by : (o : Outcome) → ((d : ℕ) → search_in ok n (suc s) k d f ≡ search ok (suc s) k d (from 0 n) f) → onward_to ok (λ c. search_in ok n (suc s) k c f) s f o ≡ onward_to ok (λ c. search ok (suc s) k c (from 0 n) f) s f o
-      by (found c) e = refl
-      by out e = refl
-      by (through d) e = e d
 
 -- ── proofs: the scans ──
 

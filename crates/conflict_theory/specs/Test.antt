@@ -9,7 +9,8 @@ use Rattle.theory.specs.Rules.{Shape, Kind, Out, success, mismatch, refused12, r
 use Rattle.theory.specs.Basics.{All, all_map, clash}
 use Rattle.theory.specs.Ways.{Way, Kinded}
 use Rattle.theory.specs.Graph.{Lower}
-use Rattle.theory.specs.Solve.{solves, Fresh, Posed, Solves, solvable_exactly}
+use Rattle.theory.specs.Solve.{solves, Fresh, Posed, Solves}
+use Rattle.theory.proofs.Solve.{solvable_exactly}
 use Rattle.conflict_theory.specs.Deletion.{Solvable, Unsolvable}
 use Rattle.conflict_theory.specs.Marks.{Unmarked, Not13, solves_calm}
 

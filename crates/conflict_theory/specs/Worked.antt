@@ -5,15 +5,13 @@ use Rattle.std.proofs.Common.{sym, subst, ◌∙◌, inl, inr, append_assoc, ari
 use Rattle.std.proofs.Math.Option.{Option, none, some}
 use Rattle.theory.specs.Rules.{Shape, Kind, Out, success, mismatch, refused12, refused13, dry, Pair, row, div}
 use Rattle.theory.specs.Program.{Equation}
-use Rattle.theory.specs.Basics.{All, all_map, clash}
-use Rattle.theory.specs.Ways.{Way, Kinded, Plain, PlainSides, Sided, Meets, Went, Failed, NoWay}
+use Rattle.theory.specs.Basics.{All, clash}
+use Rattle.theory.specs.Ways.{Way, Kinded, Plain, PlainSides, Sided, Meets, Went, Failed}
 use Rattle.theory.specs.Keep.{Ended}
-use Rattle.theory.specs.Demand.{Claim}
-use Rattle.theory.specs.Solve.{Solves}
 use Rattle.conflict_theory.specs.Sets.{all_both, all_first, all_second}
 use Rattle.conflict_theory.specs.Marks.{Not13}
 use Rattle.conflict_theory.specs.Deletion.{leave}
-use Rattle.conflict_theory.specs.Test.{ok, NoCommon}
+use Rattle.conflict_theory.specs.Test.{ok}
 
 -- ── definitions ──
 
@@ -142,15 +140,8 @@ went_of refused12 u e f = cc
 went_of refused13 u e f = absurd u
 went_of dry u e f = absurd e
 
-failed_of : (o : Out) → is_failed o ≡ true → Failed o
-failed_of success e = clash (cc)
-failed_of mismatch e = tt
-failed_of refused12 e = tt
-failed_of refused13 e = clash (cc)
-failed_of dry e = clash (cc)
-
 -- the answers of a log, each ended
-abbrev EndedLog : List Equation → Type 0
+abbrev pub EndedLog : List Equation → Type 0
 EndedLog l = All (λ (q : Equation). Ended q.answer) l
 
 -- no equation failed that way: each went through
@@ -172,31 +163,3 @@ pub record First (rows : List Shape) (kinds : List Kind) (k : List Equation) : T
   pub fails : Failed failed.answer
   pub went : All Went before
   pub none : All (Sided rows) k → (w : Way) → Kinded kinds w → All (Meets rows w) k → ⊥
-
-some_failed : (rows : List Shape) (kinds : List Kind) (l k : List Equation) → None13 l → EndedLog l → NoWay rows kinds l → until_failed l ≡ some k → First rows kinds k
-unfolding until_failed
-some_failed rows kinds [] k u d n e = clash (cc)
-some_failed rows kinds (q ∷ l) k u d n e = by (until_failed l) refl (is_failed q.answer) refl (λ j p. some_failed rows kinds l j u.1 d.1 n.0 p) e
-  where
-    by : (o : Option (List Equation)) → until_failed l ≡ o → (b : Bool) → is_failed q.answer ≡ b → ((j : List Equation) → until_failed l ≡ some j → First rows kinds j) → earlier o (there b (q ∷ l)) ≡ some k → First rows kinds k
-    by (some j) p b f r h = let g : j ≡ k = cc in subst (First rows kinds) g (r j p)
-    by none p false f r h = clash (cc)
-    by none p true f r h =
-        let g : q ∷ l ≡ k = cc in
-        let w = none_failed l u.1 d.1 p in
-        let a = failed_of q.answer f in
-        let x : First rows kinds (q ∷ l) = record { failed = q; before = l; is = refl; fails = a; went = w; none = λ s. n.1 a w s } in
-        subst (First rows kinds) g x
-
-module _ (rows : List Shape) (kinds : List Kind) (b : List (Option ℕ)) (log : List Equation) (claim : Claim rows kinds b log) (calm : None13 log) where
-  -- what f) works on is the log at the first failure
-  pub first : (k : List Equation) → until_failed log ≡ some k → First rows kinds k
-  first k e = some_failed rows kinds log k calm claim.ended claim.noway e
-
-  -- f): the equations it works on "have no common solution", where their sides are plain or Diverges got
-  pub worked_none : (k : List Equation) → until_failed log ≡ some k → All (PlainPair rows) (in_order k) → NoCommon rows kinds (sides_at (in_order k)) (numbers (in_order k))
-  worked_none k e h s =
-      (first k e).none
-      ((order_all (λ p. PlainSides rows p.0 p.1) k).1 (all_map (PlainPair rows) (λ p. PlainSides rows p.0 p.1) (in_order k) (plain_sided rows) h))
-      s.0 s.1
-      ((order_all (Solves rows s.0) k).1 ((numbers_all (Solves rows s.0) (in_order k)).1 s.2))

@@ -1,4 +1,6 @@
 // What is told of `quarrel`'s answer in numbers, and what is sought by numbers, for programs in C and Rust.
+#![tactic(auto)]
+
 ghost use Rattle.std.specs.Prelude.{◌≡◌};
 ghost use Rattle.std.proofs.lemmas.List.Edits.{sets};
 ghost use Rattle.told.specs.Numbers.{number_told};

@@ -1,9 +1,11 @@
 // A number of 64 bits from its decimal digits, for programs.
+#![tactic(auto)]
+
 ghost use Rattle.std.specs.Prelude.{◌≡◌, ◌+◌, ◌*◌, ◌≤◌, ltb};
 ghost use Rattle.decimal.specs.Digits.{most, number_of, digits_from};
 
 // What a text is, read as a number.
-#[derive(Drop)]
+#[derive(Clone, Copy)]
 pub enum Decimal {
     Is(u64),
     Bad,

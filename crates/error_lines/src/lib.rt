@@ -1,4 +1,6 @@
 // The lines of the errors in document 01's report, from the memory of a walk into a lent output.
+#![tactic(auto)]
+
 ghost use Rattle.std.specs.Prelude.{◌≡◌, ◌++◌, take};
 ghost use Rattle.lex.specs.Text.{text};
 ghost use Rattle.record.specs.Own.{kind_at, span_of, second_of};

@@ -1,4 +1,3 @@
 pub mod ErrorLaws
 pub mod Listed
-pub mod Row
-pub mod NoError
+pub mod Filling

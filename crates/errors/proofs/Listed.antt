@@ -21,6 +21,10 @@ pub one_more_lem : (t : List ErrorRow) (f : ℕ → ErrorRow) (k : ℕ) (y : Err
 unfolding filled_to
 one_more_lem t f k y e = ap (set (filled_to t f k) k) e ∙ ap (filled_to t f) (sym (add-one k))
 
+-- the same of tables and rows by their names
+pub one_more : (t : List ErrorRow) (f : ℕ → ErrorRow) (k : ℕ) (u v : List ErrorRow) (y : ErrorRow) → u ≡ filled_to t f k → y ≡ f k → v ≡ set u k y → v ≡ filled_to t f (k + 1)
+one_more t f k u v y p q e = e ∙ ap (λ (x : List ErrorRow). set x k y) p ∙ one_more_lem t f k y q
+
 -- past the last row nothing is filled
 pub past_last : (t : List ErrorRow) (f : ℕ → ErrorRow) (k : ℕ) → length t ≤ k → filled_to t f (length t) ≡ filled_to t f k
 unfolding filled_to

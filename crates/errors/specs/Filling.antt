@@ -1,17 +1,12 @@
 -- The laws of a table of errors: a table that is filled from the memory of a walk is that of the state that the memory holds. Assumes nothing.
-use Rattle.std.specs.Prelude.{◌≡◌, refl, List, [], ◌∷◌, ◌++◌, ℕ, zero, suc, ◌+◌, ◌-◌, ◌≤◌, ◌<◌, length, replicate, set, get_or}
-use Rattle.std.proofs.Common.{sym, ap, subst, ◌∙◌, arith, length-set, length-append, ext_get_or, get_or-set_same, get_or-set_other, get_or-append-add, lt-ltb, le-ltb}
+use Rattle.std.specs.Prelude.{◌≡◌, refl, List, [], ◌∷◌, ℕ, zero, suc, ◌+◌, ◌-◌, ◌≤◌, ◌<◌, length, replicate, set, get_or}
+use Rattle.std.proofs.Common.{sym, ap, ◌∙◌, arith, length-set, length-append, get_or-set_same, get_or-set_other, get_or-append-add, le-ltb}
 use Rattle.std.proofs.Math.Decide.{dec_lt}
-use Rattle.std.proofs.lemmas.List.{length-replicate, get_or-replicate, get_or_at}
+use Rattle.std.proofs.lemmas.List.{length-replicate, get_or-replicate}
 use Rattle.std.proofs.Math.ListN.{get_or-append, get_or-eq_default}
 use Rattle.record.specs.declared.TypingError.{TypingError}
-use Rattle.record.specs.declared.Record.{Record}
-use Rattle.record.specs.Own.{error_at, errors_of}
-use Rattle.record.specs.Regions.{length_errors}
-use Rattle.record.specs.Steps.{State}
-use Rattle.record.specs.Encodes.{Encodes}
 use Rattle.errors.specs.declared.ErrorRow.{ErrorRow}
-use Rattle.errors.specs.Rows.{zero_row, row_of, row_at, error_rows, padded_rows, zero_rows, row_in, filled_to}
+use Rattle.errors.specs.Rows.{zero_row, row_of, row_at, error_rows, padded_rows, row_in, filled_to}
 
 -- ── a table that is filled ──
 
@@ -33,18 +28,7 @@ filled_at t f (suc k) i h l = by (filled_at t f k i h) (dec_lt i k)
         let e : i ≡ k = omega arith in
         rw e (get_or-set_same (filled_to t f k) k (f k) zero_row (omega (arith, length-filled t f k)))
 
--- a whole table
-pub filled_whole : (t u : List ErrorRow) (f : ℕ → ErrorRow) → length u ≡ length t → ((i : ℕ) → i < length t → row_at u i ≡ f i) → filled_to t f (length t) ≡ u
-filled_whole t u f e g =
-    let n : length (filled_to t f (length t)) ≡ length t = length-filled t f (length t) in
-    ext_get_or zero_row (filled_to t f (length t)) u (n ∙ sym e) (λ i h. let l : i < length t = omega arith in filled_at t f (length t) i l l ∙ sym (g i l))
-
 -- ── the errors of a memory ──
-
--- a row of the memory, of an error
-row_of_lem : (m : List ℕ) (n i : ℕ) → i < n → row_in m n i ≡ row_of (error_at m i)
-unfolding row_in
-row_of_lem m n i h = rw (lt-ltb i n h)
 
 -- past the last
 pub row-past : (m : List ℕ) (n i : ℕ) → n ≤ i → row_in m n i ≡ zero_row
@@ -57,25 +41,12 @@ unfolding error_rows
 length_error_rows [] = refl
 length_error_rows (e ∷ l) = omega (arith, length-append (error_rows l) (row_of e ∷ []), length_error_rows l)
 
--- the errors of the memory, the oldest first
-rows_at : (m : List ℕ) (n i : ℕ) → i < n → row_at (error_rows (errors_of m n)) i ≡ row_of (error_at m i)
-unfolding error_rows errors_of
-rows_at m zero i h = absurd (omega arith)
-rows_at m (suc n) i h = by (rows_at m n i) (dec_lt i n)
-  where
-    k : length (error_rows (errors_of m n)) ≡ n
-    k = length_error_rows (errors_of m n) ∙ length_errors m n
-
-    by : (i < n → row_at (error_rows (errors_of m n)) i ≡ row_of (error_at m i)) → Dec (i < n) → row_at (error_rows (errors_of m n) ++ row_of (error_at m n) ∷ []) i ≡ row_of (error_at m i)
-    by again (yes g) = get_or-append (error_rows (errors_of m n)) (row_of (error_at m n) ∷ []) zero_row i (omega (arith, k)) ∙ again g
-    by again (no g) = let e : i ≡ n = omega arith in rw e (get_or_at (error_rows (errors_of m n)) (row_of (error_at m n)) [] zero_row n k)
-
 -- a table past its end
-past : (t : List ErrorRow) (i : ℕ) → length t ≤ i → row_at t i ≡ zero_row
+pub past : (t : List ErrorRow) (i : ℕ) → length t ≤ i → row_at t i ≡ zero_row
 past t i h = get_or-eq_default t zero_row h
 
 -- zeros behind a table change no row
-padded_at : (t : List ErrorRow) (n i : ℕ) → i < n → row_at (padded_rows n t) i ≡ row_at t i
+pub padded_at : (t : List ErrorRow) (n i : ℕ) → i < n → row_at (padded_rows n t) i ≡ row_at t i
 padded_at t n i h = by (dec_lt i (length t))
   where
     by : Dec (i < length t) → row_at (padded_rows n t) i ≡ row_at t i
@@ -96,22 +67,3 @@ behind_rows t n i h = by (dec_lt i n)
     by : Dec (i < n) → row_at (padded_rows n t) i ≡ zero_row
     by (yes g) = padded_at t n i g ∙ past t i h
     by (no g) = past (padded_rows n t) i (omega (arith, length-append t (replicate (n - length t) zero_row), length-replicate {A = ErrorRow} (n - length t) zero_row))
-
--- ── the two ways to fill ──
-
--- from the state that the memory holds: its errors, the oldest first, and zeros behind them
-pub filled_state : (m : List ℕ) (c : Record) (s : State) (t : List ErrorRow) → Encodes m c s → length s.errs ≤ length t
-    → filled_to t (row_in m c.errors) (length t) ≡ padded_rows (length t) (error_rows s.errs)
-filled_state m c s t e h =
-    let n = c.errors in
-    let k : length (error_rows s.errs) ≤ length t = omega (arith, length_error_rows s.errs) in
-    filled_whole t (padded_rows (length t) (error_rows s.errs)) (row_in m n) (length-padded (error_rows s.errs) (length t) k) (λ i l.
-    padded_at (error_rows s.errs) (length t) i l ∙ ap (λ (x : List TypingError). row_at (error_rows x) i) e.errors ∙ by (dec_lt i n))
-  where
-    by : {i : ℕ} → Dec (i < c.errors) → row_at (error_rows (errors_of m c.errors)) i ≡ row_in m c.errors i
-    by {i} (yes g) = rows_at m c.errors i g ∙ sym (row_of_lem m c.errors i g)
-    by {i} (no g) = past (error_rows (errors_of m c.errors)) i (omega (arith, length_error_rows (errors_of m c.errors), length_errors m c.errors)) ∙ sym (row-past m c.errors i (omega arith))
-
--- with no errors: zeros throughout
-pub filled_none : (m : List ℕ) (t : List ErrorRow) → filled_to t (row_in m 0) (length t) ≡ zero_rows t
-filled_none m t = filled_whole t (zero_rows t) (row_in m 0) (length-replicate (length t) zero_row) (λ i h. get_or-replicate (length t) i zero_row zero_row h ∙ sym (row-past m 0 i (omega arith)))

@@ -1,5 +1,7 @@
 // The error rows that a check hands back: a lent slice of structs, one row per error in order, filled from the memory of a walk by one function
 // that appends a row.
+#![tactic(auto)]
+
 ghost use Rattle.std.specs.Prelude.{◌≡◌, get_or, set};
 ghost use Rattle.type_table.specs.Memory.{cell};
 ghost use Rattle.record.specs.Own.{kind_number, kind_at, span_tag, span_value, span_of, second_tag, second_value, second_of};
@@ -8,7 +10,7 @@ ghost use Rattle.errors.specs.Rows.{zero_row, row_in, filled_to};
 // An error as it is handed back: KIND, CAUSE, P by its tag (0 a node, 1 a bind item, 2 the signature) and its number, 1 if there is a Q, Q, and
 // three values; those that its kind does not have are 0.
 #[repr(C)]
-#[derive(Drop)]
+#[derive(Clone, Copy)]
 pub struct ErrorRow {
     pub kind: u16,
     pub cause: u16,

@@ -1,4 +1,6 @@
 // The report of a file with the errors in a slice of numbers, nine for each row: for a program that lends numbers alone.
+#![tactic(auto)]
+
 ghost use Rattle.std.specs.Prelude.{◌≡◌, ◌+◌, ◌*◌, ◌≤◌, length, set};
 ghost use Rattle.std.proofs.lemmas.List.Edits.{sets};
 ghost use Rattle.errors.specs.Rows.{row_in};

@@ -113,6 +113,13 @@ node_key (x ∷ y ∷ z ∷ []) h a b c d e = absurd (omega arith)
 node_key (x ∷ y ∷ z ∷ u ∷ []) h a b c d e = absurd (omega arith)
 node_key (x ∷ y ∷ z ∷ u ∷ v ∷ vs) h a b c d e = (rw (a, b, c, d, e), rw (a, b, c, d))
 
+-- its two parts
+pub node_ends : (l : List ℕ) → 5 ≤ length l → get_or l 0 0 ≡ 110 → get_or l 1 0 ≡ 111 → get_or l 2 0 ≡ 100 → get_or l 3 0 ≡ 101 → get_or l 4 0 ≡ 61 → 4 ≡ before 61 l
+node_ends l h a b c d e = (node_key l h a b c d e).0
+
+pub node_numbered : (l : List ℕ) → 5 ≤ length l → get_or l 0 0 ≡ 110 → get_or l 1 0 ≡ 111 → get_or l 2 0 ≡ 100 → get_or l 3 0 ≡ 101 → get_or l 4 0 ≡ 61 → 4 ≡ key_of (take 4 l)
+node_numbered l h a b c d e = (node_key l h a b c d e).1
+
 -- a line's key by its word
 module _ (l : List ℕ) (e : ℕ) (q : e ≡ 0 + before 61 l) where
   pub key_end : e ≡ before 61 l

@@ -1,4 +1,6 @@
 // Reads a line's value by a table of forms: `form_at` has the kinds of each form's fields, and one loop reads every form.
+#![tactic(auto)]
+
 ghost use Rattle.std.specs.Prelude.{◌≡◌, ◌+◌, ◌≤◌, ◌<◌, length, take, drop};
 ghost use Rattle.lex.specs.declared.Num.TheVariants as num;
 ghost use Rattle.lex.specs.Text.{number_of, before, fields_from};
@@ -65,7 +67,7 @@ pub const RESOLUTION: u8 = 96;
 pub const SEGMENT: u8 = 112;
 
 // The kinds of a form's first three fields and of every further one, and the least and the greatest number of fields.
-#[derive(Drop)]
+#[derive(Clone, Copy)]
 pub struct Form(pub u8, pub u8, pub u8, pub u8, pub usize, pub usize);
 
 // The numbers of the forms, as far as other crates look for them; those of nodes go from FORM_BOOL to FORM_PATH.
@@ -128,35 +130,35 @@ pub const MOST_FORMS: usize = 30;
 const MOST_VALUE: usize = 65536;
 
 // What a field holds: a name; a tag, which is 0 for `-`, 1 for a number and 1 to 6 for l f c i e o; and a value.
-#[derive(Drop)]
+#[derive(Clone, Copy)]
 pub struct Cell {
     pub name: u16,
     pub tag: u16,
     pub value: u16,
 }
 
-#[derive(Drop)]
+#[derive(Clone, Copy)]
 pub enum Read {
     Is(Cell),
     Bad,
 }
 
 // What the field that starts at a place holds, and where it ends.
-#[derive(Drop)]
+#[derive(Clone, Copy)]
 pub enum Taken {
     Is(Cell, usize),
     Bad,
 }
 
 // How many fields a line has, all of their kinds.
-#[derive(Drop)]
+#[derive(Clone, Copy)]
 pub enum Got {
     Count(usize),
     Bad,
 }
 
 // What is wrong with a line, or with a file: answers 3 to 6.
-#[derive(Drop)]
+#[derive(Clone, Copy)]
 pub enum Fault {
     Form,
     Limit,
@@ -165,7 +167,7 @@ pub enum Fault {
 }
 
 // What a line's value is: a fault, or its form's number and how many fields it has.
-#[derive(Drop)]
+#[derive(Clone, Copy)]
 pub enum Line {
     Fault(Fault),
     Row(u8, usize),
@@ -246,7 +248,7 @@ pub fn key_of(w: u64) -> u8
 }
 
 // The key of a line, and where it ends.
-#[derive(Drop)]
+#[derive(Clone, Copy)]
 pub struct Key {
     pub number: u8,
     pub end: usize,

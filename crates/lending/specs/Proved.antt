@@ -1,7 +1,7 @@
 -- From a walk of a function's MIR to the function's theorem, for a function that asks nothing of its caller: the last lines of such a proof.
 -- Assumes nothing.
 use seplogic.Ra.Ura.{Ura}
-use mir.Syntax.{Name, Fn}
+use mir.Syntax.{Callee, Fn}
 use base.Logic.{ent, via, fst∗}
 use prog.Model.{Model}
 use prog.Routine.{Env}
@@ -20,7 +20,7 @@ use denote.Triple.Clauses.{Clauses, Ended, closing}
 use denote.Triple.Table.{entered}
 use denote.Triple.Walked.{Stays, AllGo, walk_of, walked, walk_Meets}
 
-module _ {M : Type 1} {𝓤 : Ura M} (𝓛 : Logic 𝓤) (𝓜 : Model 𝓤 𝓛.H) (𝓡 : Running 𝓤 𝓛.H 𝓜) (T : Ended) (hs : Stays T.signature.params T.kept) (c : Clauses 𝓤 T) (γ : Env) (k : Name) (f : Fn) where
+module _ {M : Type 1} {𝓤 : Ura M} (𝓛 : Logic 𝓤) (𝓜 : Model 𝓤 𝓛.H) (𝓡 : Running 𝓤 𝓛.H 𝓜) (T : Ended) (hs : Stays T.signature.params T.kept) (c : Clauses 𝓤 T) (γ : Env) (k : Callee) (f : Fn) where
   -- a walk at each choice of lifetimes, shares and arguments, with the parameters' machine values written out and their relations in hand
   open 𝓛 use {H}
 

@@ -8,8 +8,8 @@
 use Rattle.std.specs.Prelude.{◌≡◌, refl, ℕ, List, [], ◌∷◌}
 use Rattle.std.proofs.Common.{sym, ap, subst}
 use seplogic.Ra.Ura.{Ura}
-use seplogic.Ra.TreeShare.{full_share}
-use mir.Syntax.{Name, Lifetime, Place, Opd as Operand, Body as Code, Ty, seq, call}
+use base.Fraction.{full_share}
+use mir.Syntax.{Callee, Lifetime, Place, Opd as Operand, Body as Code, Ty, seq, call}
 use mir.Val.{Val, vptr}
 use base.Logic.{SProp, ent, sep, ex, emp, via, comm∗, emp∗, mono_l, mono_r}
 use base.Stored.{Gv}
@@ -103,7 +103,7 @@ module _ {M : Type 1} {𝓤 : Ura M} {𝓛 : Logic 𝓤} {K : Type 0} {Γ : List
   -- a function whose result is plain data is called
   open 𝓛 use {H}
 
-  pub calls : K → {E : Env 𝓤 H} {C : Calls 𝓤 H} {Λ : Loops 𝓤 H} {f : Name} {xs : List Operand} {d : Place} {rest : Code} {q : Post 𝓤 H} → FmC 𝓤 H 𝓛.laws C
+  pub calls : K → {E : Env 𝓤 H} {C : Calls 𝓤 H} {Λ : Loops 𝓤 H} {f : Callee} {xs : List Operand} {d : Place} {rest : Code} {q : Post 𝓤 H} → FmC 𝓤 H 𝓛.laws C
       → (c : Contract 𝓤) → Triple 𝓤 (C f) c → (x : c.Ghost) (τs : Item 𝓤) (P : Fml) → ent 𝓤 (sep 𝓤 (sep 𝓤 (mean 𝓛 τs) (sem 𝓛 P)) (emp 𝓤)) (c.pre x)
       → (D : Data) (Ws : Type 0) (L : Ws → Fml) (φ : D.row.Denot → Ws → Type 0) → ((w : Val) → ent 𝓤 (c.post x w) (Answer 𝓛 D τs Ws L φ w))
       → Opds K 𝓛 (raw (c.pre x) ∷ Γ) E xs (c.args x) → ((r : D.row.Denot) (ws : Ws) → Fits D r → φ r ws → Seq K 𝓛 (τs ∷ ‵ (L ws) ∷ Γ) (lands C Λ E d (D.val r) rest q))

@@ -1,1 +1,2 @@
 // Laws for the proofs by hand of functions over lent structs: no code.
+#![tactic(auto)]

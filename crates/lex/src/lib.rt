@@ -1,9 +1,11 @@
 // The lexical layer of a line: numbers, fields and words of a part of the input.
+#![tactic(auto)]
+
 ghost use Rattle.std.specs.Prelude.{◌≡◌, ◌+◌, ◌-◌, ◌<◌, ◌≤◌, length, take, drop};
 ghost use Rattle.lex.specs.Text.{number_of, digits_from, before, pack, scan_of};
 
 // What a field holds, read as a number.
-#[derive(Drop)]
+#[derive(Clone, Copy)]
 pub enum Num {
     Is(u16),
     Bad,
@@ -54,7 +56,7 @@ fn digits(s: &[u8]) -> Num
 }
 
 // What a field is, as far as one pass over it says: a number, with the place of its end, or anything else.
-#[derive(Drop)]
+#[derive(Clone, Copy)]
 pub enum Field {
     Number(u16, usize),
     Other,
@@ -160,7 +162,7 @@ pub fn pack(s: &[u8]) -> u64
 }
 
 // The word at the start of a line: where it ends, and its number.
-#[derive(Drop)]
+#[derive(Clone, Copy)]
 pub struct Word {
     pub end: usize,
     pub number: u64,

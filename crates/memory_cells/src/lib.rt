@@ -1,4 +1,6 @@
 // The cells of the lent memory of types and variables: of a type row and of a variable, by their numbers. docs/TABLES.md has the regions.
+#![tactic(auto)]
+
 ghost use Rattle.std.specs.Prelude.{◌≡◌, ◌+◌, ◌*◌, set};
 ghost use Rattle.memory_cells.specs.Cells.{cell, rows_at, row_written, var_written, binding_written};
 

@@ -1,4 +1,6 @@
 // The tables of a body as the typing rules read them: nodes, signatures, fields and methods.
+#![tactic(auto)]
+
 ghost use Rattle.std.specs.Prelude.{◌≡◌, ◌+◌, length};
 ghost use Rattle.theory.specs.Rules.{row};
 ghost use Rattle.type_table.specs.Memory.{inputs_from, rows_of};
@@ -10,28 +12,28 @@ use type_table::{
 };
 
 // A type, or `-`.
-#[derive(Drop)]
+#[derive(Clone, Copy)]
 pub enum MaybeType {
     Of(TypeId),
     Absent,
 }
 
 // A node, or `-`.
-#[derive(Drop)]
+#[derive(Clone, Copy)]
 pub enum MaybeNode {
     Of(NodeId),
     Absent,
 }
 
 // A definition, or none.
-#[derive(Drop)]
+#[derive(Clone, Copy)]
 pub enum MaybeDef {
     Of(DefId),
     Absent,
 }
 
 // The items of a line: `count` fields, the first of them the field `first` + `from`.
-#[derive(Drop)]
+#[derive(Clone, Copy)]
 pub struct Items {
     pub first: u16,
     pub from: u16,
@@ -39,7 +41,7 @@ pub struct Items {
 }
 
 // What a path stands for.
-#[derive(Drop)]
+#[derive(Clone, Copy)]
 pub enum Res {
     Local(NodeId),
     Fn(DefId),
@@ -50,7 +52,7 @@ pub enum Res {
 }
 
 // OP of `bin`: the four that give Bool, the ordering comparisons, others.
-#[derive(Drop)]
+#[derive(Clone, Copy)]
 pub enum BinOp {
     Boolean,
     Ordering,
@@ -58,7 +60,7 @@ pub enum BinOp {
 }
 
 // OP of `un`.
-#[derive(Drop)]
+#[derive(Clone, Copy)]
 pub enum UnOp {
     Deref,
     Address,
@@ -67,7 +69,7 @@ pub enum UnOp {
 }
 
 // A node, by its form.
-#[derive(Drop)]
+#[derive(Clone, Copy)]
 pub enum Node {
     Bool,
     Int,
@@ -94,7 +96,7 @@ pub enum Node {
 }
 
 // A field of a line: its tag and its value.
-#[derive(Drop)]
+#[derive(Clone, Copy)]
 struct Field {
     tag: u16,
     value: u16,
@@ -330,7 +332,7 @@ pub fn declared(rows: &[u16], cells: &[u16], n: NodeId) -> MaybeType
 }
 
 // A let's type and init.
-#[derive(Drop)]
+#[derive(Clone, Copy)]
 pub enum Local {
     Let(MaybeType, MaybeNode),
     Not,
@@ -349,7 +351,7 @@ pub fn let_of(rows: &[u16], cells: &[u16], n: NodeId) -> Local
 }
 
 // A block's tail and statements.
-#[derive(Drop)]
+#[derive(Clone, Copy)]
 pub enum Block {
     Of(MaybeNode, Items),
     Not,
@@ -372,7 +374,7 @@ pub fn block_of(rows: &[u16], cells: &[u16], n: NodeId) -> Block
 // ── types and the function ──
 
 // A type line.
-#[derive(Drop)]
+#[derive(Clone, Copy)]
 pub enum TypeRow {
     Array(TypeId),
     Fun(u16, TypeId, Items),
@@ -402,7 +404,7 @@ pub fn type_row(rows: &[u16], cells: &[u16], i: u16) -> TypeRow
 }
 
 // The `fn` line.
-#[derive(Drop)]
+#[derive(Clone, Copy)]
 pub struct Function {
     pub output: TypeId,
     pub body: NodeId,
@@ -426,7 +428,7 @@ pub fn fn_line(rows: &[u16], cells: &[u16]) -> Function
 // ── signatures ──
 
 // What is called: a definition, or what a function type or a lambda says.
-#[derive(Drop)]
+#[derive(Clone, Copy)]
 pub enum Callee {
     Def(DefId),
     Type(TypeId),
@@ -519,7 +521,7 @@ pub fn input(m: &[u16], c: Counts, rows: &[u16], cells: &[u16], f: Callee, i: u1
 // ── fields and methods ──
 
 // The number of an item that has a name, or none: a field's type, or a method's definition.
-#[derive(Drop)]
+#[derive(Clone, Copy)]
 enum NamedItem {
     Of(u16),
     Absent,

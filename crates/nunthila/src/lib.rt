@@ -1,5 +1,7 @@
-// The checker for programs in C and Rust: `rt staticlib nunthila` writes an archive with the four exported functions. A slice passes as a pointer and a
-// length; the answer is document 01's number, and what else is known of it is told in fourteen numbers, as many as have room.
+// The checker for programs in C and Rust: the four functions that `nunthila_c` exports. A slice passes as a pointer and a length; the answer is
+// document 01's number, and what else is known of it is told in fourteen numbers, as many as have room.
+#![tactic(auto)]
+
 ghost use Rattle.std.specs.Prelude.{◌≡◌};
 ghost use Rattle.answers.specs.Lent.{lent};
 ghost use Rattle.nunthila.specs.Told.{checked, check_told, reporting, report_told, quarrel_told, shortest_told};
@@ -7,8 +9,7 @@ ghost use Rattle.nunthila.specs.Told.{checked, check_told, reporting, report_tol
 use errors::ErrorRow;
 
 // Checks a file.
-#[unsafe(no_mangle)]
-pub extern "C" fn nunthila_check(
+pub fn nunthila_check(
     s: &[u8],
     rows: &mut [u16],
     cells: &mut [u16],
@@ -27,8 +28,7 @@ pub extern "C" fn nunthila_check(
 }
 
 // Checks a file, and writes its report.
-#[unsafe(no_mangle)]
-pub extern "C" fn nunthila_report(
+pub fn nunthila_report(
     s: &[u8],
     rows: &mut [u16],
     cells: &mut [u16],
@@ -48,8 +48,7 @@ pub extern "C" fn nunthila_report(
 }
 
 // Checks a file, and writes the minimal conflict among its equations; `places` is 0 for lines with the number alone.
-#[unsafe(no_mangle)]
-pub extern "C" fn nunthila_quarrel(
+pub fn nunthila_quarrel(
     s: &[u8],
     rows: &mut [u16],
     cells: &mut [u16],
@@ -74,8 +73,7 @@ pub extern "C" fn nunthila_quarrel(
 
 // Checks a file, and writes a shortest conflict among its equations, with so many subsets that may be tested; `places` is 0 for lines with the number
 // alone.
-#[unsafe(no_mangle)]
-pub extern "C" fn nunthila_shortest(
+pub fn nunthila_shortest(
     s: &[u8],
     rows: &mut [u16],
     cells: &mut [u16],

@@ -10,9 +10,8 @@ use lib.ListN.{length, drop, take, set, get_or, replicate, length-append, length
 use lib.Dec.{ltb}
 use borrow.Author.Tests.{ltb-false, ltb-true}
 use lib.Seq.{take-suc, take_all, take-suc-set}
-use Rattle.output.specs.declared.Ending.{Ending}
 use Rattle.output.specs.declared.Ending.TheVariants.{At, Full}
-use Rattle.output.specs.Output.{full, Written, Appends, Finishes, Output, output, ended, zeros, digits_of}
+use Rattle.output.specs.Output.{full, Written, Appends, Finishes, output, ended, zeros, digits_of}
 use Rattle.output.specs.Appending.{then, appends_as, append_none}
 
 -- ── a byte ──

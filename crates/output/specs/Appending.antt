@@ -1,8 +1,8 @@
 -- Texts one behind the other. Assumes nothing.
-use Rattle.std.proofs.Common.{arith, sym, ap, subst, ◌∙◌, inl, append_assoc, append-nil, length-append, length-drop, take-suc}
-use Rattle.std.specs.Prelude.{◌≡◌, refl, List, [], ◌∷◌, ◌++◌, ℕ, zero, suc, ◌+◌, ◌≤◌, ◌<◌, length, drop, take, get_or}
+use Rattle.std.proofs.Common.{arith, sym, subst, inl, append_assoc, append-nil}
+use Rattle.std.specs.Prelude.{◌≡◌, refl, List, [], ◌++◌, ℕ}
 use Rattle.output.specs.declared.Ending.{Ending}
-use Rattle.output.specs.Output.{Written, Appends, Finishes, Output, output, ended}
+use Rattle.output.specs.Output.{Written, Appends, Finishes, output, ended}
 
 -- nothing is written yet
 pub started : (o : List ℕ) → Written [] o 0 o

@@ -1,5 +1,7 @@
 // Bytes and decimal numbers into a lent output, one behind the other. The cursor is the place of the next byte; a byte without room makes it FULL,
 // and so it stays. The bytes behind the text are unchanged as long as all of it has room.
+#![tactic(auto)]
+
 ghost use Rattle.std.specs.Prelude.{◌∷◌, [], ◌++◌, ◌≡◌, ◌+◌, ◌%◌};
 ghost use Rattle.output.specs.Output.{Appends, Finishes, number_text, digits_of, newline, zeros};
 
@@ -7,7 +9,7 @@ ghost use Rattle.output.specs.Output.{Appends, Finishes, number_text, digits_of,
 pub const FULL: usize = 18446744073709551615;
 
 // Where a text ends.
-#[derive(Drop)]
+#[derive(Clone, Copy)]
 pub enum Ending {
     // At this place of the output.
     At(usize),

@@ -1,4 +1,6 @@
 // What `typereport` prints of a body: its report, and `answer=9,-` where that has no room in the output.
+#![tactic(auto)]
+
 ghost use Rattle.std.specs.Prelude.{◌≡◌};
 ghost use Rattle.output.specs.Output.{ended};
 ghost use Rattle.printed_report.specs.Printed.{printed, nine_line, printed_text, printed_by, printed_of};

@@ -2,10 +2,13 @@
 // 02 f). With the argument `where` each line has the node whose rule raised the equation and its two sides too. With any other argument,
 // or more than one, nothing is printed but a line on standard error. Of a longer input 65,537 bytes are read, which is enough to decline
 // it. Where standard input cannot be read or standard output cannot be written, a line on standard error says so.
+#![tactic(auto)]
+
 use conflict_set::{Lines, Sought};
+use std::env::Env;
 
 // The lines that are asked for.
-#[derive(Drop)]
+#[derive(Clone, Copy)]
 enum Wanted {
     Lines(Lines),
     // The arguments say nothing that is known.
@@ -21,23 +24,24 @@ fn wanted_by(a: &[u8; quarrel_program::WHERE], n: usize) -> Wanted {
 }
 
 // By the arguments; the program's name is one of them.
-fn lines_wanted() -> Wanted {
-    let k = os::arg_count();
-    if k < 2 {
+fn lines_wanted(rt: &impl Env) -> Wanted {
+    if !quarrel_program::has_arg(rt, 1) {
         return Wanted::Lines(Lines::Numbers);
     }
-    if k == 2 {
+    if !quarrel_program::has_arg(rt, 2) {
         let mut a = [0u8; quarrel_program::WHERE];
-        let n = os::arg(1, &mut a);
+        let n = quarrel_program::arg(rt, 1, &mut a);
         return wanted_by(&a, n);
     }
     Wanted::Unknown
 }
 
-fn main() {
-    match lines_wanted() {
-        Wanted::Lines(l) => quarrel_program::run(Sought::Minimal(l), b"quarrel"),
+fn main(rt: HostRuntime) {
+    let err = rt.stderr();
+    match lines_wanted(&rt) {
+        Wanted::Lines(l) => quarrel_program::run(&rt, &rt, &err, Sought::Minimal(l), b"quarrel"),
         Wanted::Unknown => body_input::complain(
+            &err,
             b"quarrel",
             b"the one argument that is known is where\n",
         ),

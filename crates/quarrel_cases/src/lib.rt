@@ -1,17 +1,18 @@
 // Runs bodies through `quarrel`, with both forms of its lines, and prints a line for each, for the programs of the gate. The comment lines at
 // the top of their `stdin` say how a body is written and how its line is read. Before each run every cell of every table and every byte of
 // the output is 7.
+#![tactic(auto)]
+
 use body_text::Room;
 use conflict_check::Quarreled;
 use conflict_set::{Lines, Sought};
 use decimal::Decimal;
-use libc::{STDIN_FILENO, STDOUT_FILENO};
 
 // ── printing ──
 
-// A text.
-fn put(s: &[u8]) {
-    io::write_all(STDOUT_FILENO, s);
+// A text. What standard output does not take is lost.
+fn put(rt: &impl Print, s: &[u8]) {
+    let _ = rt.write_all(s);
 }
 
 // A byte, a slash for a line feed.
@@ -29,10 +30,10 @@ fn slash(s: &mut [u8]) {
 }
 
 // The first n bytes, a slash for each line feed.
-fn put_slashed(s: &mut [u8], n: usize) {
+fn put_slashed(rt: &impl Print, s: &mut [u8], n: usize) {
     if n <= s.len() {
         slash(&mut s[0..n]);
-        put(&s[0..n]);
+        put(rt, &s[0..n]);
     }
 }
 
@@ -55,21 +56,22 @@ fn right_behind(r: Quarreled, out: &[u8]) -> bool {
 }
 
 // What came of a run.
-fn put_run(r: Quarreled, out: &mut [u8]) {
+fn put_run(rt: &impl Print, r: Quarreled, out: &mut [u8]) {
     let mut line = [0u8; quarrel_line::LINE];
     let n = quarrel_line::answer_line(&mut line, r);
-    put(b" ");
-    put_slashed(&mut line, n);
+    put(rt, b" ");
+    put_slashed(rt, &mut line, n);
     if !right_behind(r, out) {
-        put(b"(behind the text)");
+        put(rt, b"(behind the text)");
     }
-    put_slashed(out, quarrel_line::text_length(r));
+    put_slashed(rt, out, quarrel_line::text_length(r));
 }
 
 // ── bodies ──
 
 // A body on these tables and this output.
 fn run_body(
+    rt: &impl Print,
     s: &[u8],
     rows: &mut [u16],
     cells: &mut [u16],
@@ -85,11 +87,11 @@ fn run_body(
     let r = conflict_check::quarrel_tables(
         s, rows, cells, nodes, vars, types, errors, log, memory, out, q,
     );
-    put_run(r, out);
+    put_run(rt, r, out);
 }
 
 // A body on tables and an output that are lent as its name says.
-fn run_tables(name: &[u8], s: &[u8], q: Sought) {
+fn run_tables(rt: &impl Print, name: &[u8], s: &[u8], q: Sought) {
     let k = samples::lengths_of(name);
     let a = k.rows;
     let b = k.cells;
@@ -109,6 +111,7 @@ fn run_tables(name: &[u8], s: &[u8], q: Sought) {
     let mut memory = [samples::BEFORE; samples::MEMORY];
     let mut out = [samples::BYTE_BEFORE; samples::LONGEST];
     run_body(
+        rt,
         s,
         &mut rows[0..a],
         &mut cells[0..b],
@@ -124,23 +127,23 @@ fn run_tables(name: &[u8], s: &[u8], q: Sought) {
 }
 
 // The first n bytes of the room: the minimal conflict, with both forms of the lines.
-fn run_minimal(name: &[u8], room: &[u8], n: usize) {
+fn run_minimal(rt: &impl Print, name: &[u8], room: &[u8], n: usize) {
     if n <= room.len() {
-        run_tables(name, &room[0..n], Sought::Minimal(Lines::Numbers));
-        run_tables(name, &room[0..n], Sought::Minimal(Lines::Places));
+        run_tables(rt, name, &room[0..n], Sought::Minimal(Lines::Numbers));
+        run_tables(rt, name, &room[0..n], Sought::Minimal(Lines::Places));
     }
 }
 
 // The same with a search.
-fn run_shortest(name: &[u8], room: &[u8], n: usize, b: u64) {
+fn run_shortest(rt: &impl Print, name: &[u8], room: &[u8], n: usize, b: u64) {
     if n <= room.len() {
-        run_tables(name, &room[0..n], Sought::Shortest(Lines::Numbers, b));
-        run_tables(name, &room[0..n], Sought::Shortest(Lines::Places, b));
+        run_tables(rt, name, &room[0..n], Sought::Shortest(Lines::Numbers, b));
+        run_tables(rt, name, &room[0..n], Sought::Shortest(Lines::Places, b));
     }
 }
 
 // What the lines of a text ask for.
-#[derive(Drop)]
+#[derive(Clone, Copy)]
 pub enum Cases {
     // A name and a body: its minimal conflict.
     Minimal,
@@ -149,54 +152,54 @@ pub enum Cases {
 }
 
 // A case with its name alone.
-fn run_named(s: &[u8], room: &mut Room) {
+fn run_named(rt: &impl Print, s: &[u8], room: &mut Room) {
     let e = body_text::find(s, 0, b' ');
-    put(&s[0..e]);
+    put(rt, &s[0..e]);
     let n = body_text::expand_line(room, s, e);
-    run_minimal(&s[0..e], room, n);
+    run_minimal(rt, &s[0..e], room, n);
 }
 
 // A body with the number that a text is.
-fn run_number(name: &[u8], number: &[u8], room: &[u8], n: usize) {
+fn run_number(rt: &impl Print, name: &[u8], number: &[u8], room: &[u8], n: usize) {
     match decimal::number(number) {
-        Decimal::Is(b) => run_shortest(name, room, n, b),
-        Decimal::Bad => put(b" (no number)"),
+        Decimal::Is(b) => run_shortest(rt, name, room, n, b),
+        Decimal::Bad => put(rt, b" (no number)"),
     }
 }
 
 // A case with its name and a number.
-fn run_numbered(s: &[u8], room: &mut Room) {
+fn run_numbered(rt: &impl Print, s: &[u8], room: &mut Room) {
     let e = body_text::find(s, 0, b' ');
     if e < s.len() {
         let f = body_text::find(s, e + 1, b' ');
-        put(&s[0..f]);
+        put(rt, &s[0..f]);
         let n = body_text::expand_line(room, s, f);
-        run_number(&s[0..e], &s[e + 1..f], room, n);
+        run_number(rt, &s[0..e], &s[e + 1..f], room, n);
     }
 }
 
 // A case.
-fn run_case(s: &[u8], room: &mut Room, k: Cases) {
+fn run_case(rt: &impl Print, s: &[u8], room: &mut Room, k: Cases) {
     match k {
-        Cases::Minimal => run_named(s, room),
-        Cases::Shortest => run_numbered(s, room),
+        Cases::Minimal => run_named(rt, s, room),
+        Cases::Shortest => run_numbered(rt, s, room),
     }
-    put(b"\n");
+    put(rt, b"\n");
 }
 
 // A line: a comment, or a case.
-fn run_line(s: &[u8], room: &mut Room, k: Cases) {
+fn run_line(rt: &impl Print, s: &[u8], room: &mut Room, k: Cases) {
     if body_text::has_body(s) {
-        run_case(s, room, k);
+        run_case(rt, s, room, k);
     }
 }
 
 // The lines of a text.
-fn run_lines(s: &[u8], room: &mut Room, k: Cases) {
+fn run_lines(rt: &impl Print, s: &[u8], room: &mut Room, k: Cases) {
     let mut at = 0;
     while at < s.len() {
         let end = body_text::find(s, at, b'\n');
-        run_line(&s[at..end], room, k);
+        run_line(rt, &s[at..end], room, k);
         if s.len() <= end {
             return;
         }
@@ -205,9 +208,9 @@ fn run_lines(s: &[u8], room: &mut Room, k: Cases) {
 }
 
 // The cases of standard input, up to 65,536 bytes.
-pub fn run(k: Cases) {
+pub fn run(rt: &(impl Input + Print), k: Cases) {
     let mut room = [0u8; body_text::ROOM];
-    let mut text = io::large_buffer();
-    let n = io::read_full(STDIN_FILENO, &mut text);
-    run_lines(&text[..n], &mut room, k);
+    let mut text = [0u8; body_input::TEXT];
+    let n = body_input::read_full(rt, &mut text);
+    run_lines(rt, &text[..n], &mut room, k);
 }

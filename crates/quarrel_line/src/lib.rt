@@ -1,4 +1,6 @@
 // What programs print of `quarrel`'s answer before its text: `answer=N,PLACE`.
+#![tactic(auto)]
+
 use answers::Answer;
 use conflict_check::Quarreled;
 use report_text::Reported;

@@ -1,5 +1,7 @@
 // The walk's one lent memory and its running record: what the typing rules do to it, step by step. The first 47,010 cells are those of
 // `type_table`; behind them are the nodes, the errors and, as far as the memory reaches, the equations raised.
+#![tactic(auto)]
+
 ghost use Rattle.std.specs.Prelude.{◌≡◌, map, ◌<◌, ◌≤◌, get_or, length, set};
 ghost use Rattle.std.proofs.Math.Option.{none};
 ghost use Rattle.theory.specs.Start;
@@ -33,7 +35,7 @@ pub const LOG_AT: usize = 80802;
 pub const MEMORY: usize = 80802;
 
 // The running record: the counts of the tables, and the type that `return` answers to.
-#[derive(Drop)]
+#[derive(Clone, Copy)]
 pub struct Record {
     pub counts: Counts,
     pub errors: u16,
@@ -42,7 +44,7 @@ pub struct Record {
 }
 
 // EXTRA of a node.
-#[derive(Drop)]
+#[derive(Clone, Copy)]
 pub enum Extra {
     Absent,
     Local(TypeId),
@@ -51,7 +53,7 @@ pub enum Extra {
 }
 
 // The variants of `TypingError`, in their order.
-#[derive(Drop)]
+#[derive(Clone, Copy)]
 pub enum ErrorKind {
     TypeMismatch,
     NoIndexOp,
@@ -67,7 +69,7 @@ pub enum ErrorKind {
 }
 
 // P of an error: the spanned node, a bind item by its definition, or the signature.
-#[derive(Drop)]
+#[derive(Clone, Copy)]
 pub enum Span {
     Node(NodeId),
     Item(DefId),
@@ -75,14 +77,14 @@ pub enum Span {
 }
 
 // Q of an error: the second node of `Span::between`.
-#[derive(Drop)]
+#[derive(Clone, Copy)]
 pub enum Second {
     At(NodeId),
     Absent,
 }
 
 // An error: KIND, CAUSE, P, Q and its values; those that its kind does not have are 0.
-#[derive(Drop)]
+#[derive(Clone, Copy)]
 pub struct TypingError {
     pub kind: ErrorKind,
     pub cause: u16,
@@ -112,7 +114,7 @@ fn write(m: &mut [u16], i: usize, v: u16)
 // ── nodes ──
 
 // The type of a node, if it has one.
-#[derive(Drop)]
+#[derive(Clone, Copy)]
 pub enum NodeType {
     Typed(TypeId),
     Untyped,
@@ -357,7 +359,7 @@ fn log(m: &mut [u16], c: Record, n: NodeId, x: TypeId, y: TypeId, answer: u16) -
 }
 
 // How an equation went, with the record: it was met; it failed; it is refused with this number.
-#[derive(Drop)]
+#[derive(Clone, Copy)]
 pub enum Equated {
     Met(Record),
     Failed(Record),
@@ -392,7 +394,7 @@ pub fn raise(m: &mut [u16], c: Record, n: NodeId, x: TypeId, y: TypeId) -> Equat
 // ── types and variables ──
 
 // A type, and the record with it.
-#[derive(Drop)]
+#[derive(Clone, Copy)]
 pub struct Given {
     pub record: Record,
     pub ty: TypeId,
@@ -602,14 +604,14 @@ pub fn start(m: &mut [u16], output: TypeId) -> Record
 
 // A type and the record with it, or the refusal that ends the walk: its number, and the node whose rule ran.
 // The number of a refusal stands first, beside the tag, so that the record behind it is copied in whole words.
-#[derive(Drop)]
+#[derive(Clone, Copy)]
 pub enum Typed {
     Type(Record, TypeId),
     Refused(u8, Record, NodeId),
 }
 
 // The same of a rule that gives no type.
-#[derive(Drop)]
+#[derive(Clone, Copy)]
 pub enum Ruled {
     Done(Record),
     Refused(u8, Record, NodeId),

@@ -1,13 +1,15 @@
 // The two lent tables of a body, and the reference rules of a line by the kinds of its fields. `cells` has a row of three numbers for
 // each field (name, tag, value), `rows` one of five for each line (form, first field, number of fields, levels, and of a node the field
 // that uses it, plus 1).
+#![tactic(auto)]
+
 ghost use Rattle.std.specs.Prelude.{◌≡◌, ◌+◌, ◌*◌, ◌≤◌, ◌<◌, get_or, set};
 ghost use Rattle.refs.specs.Refs.{types_at, form_in, first_in, count_in, levels_in, user_in, name_in, tag_in, value_in, refers_to, is_child, is_type, is_expr, is_typed, is_last, is_free, is_local, is_res, levels_of, taken, links_of, linking, same_values, is_same, is_repeated};
 
 use forms::Form;
 
 // How many rows of each key there are, and how many fields.
-#[derive(Drop)]
+#[derive(Clone, Copy)]
 pub struct Counts {
     pub types: u16,
     pub defs: u16,
@@ -18,7 +20,7 @@ pub struct Counts {
 }
 
 // Whether the fields of a line meet their rules, and then the most levels of its parts.
-#[derive(Drop)]
+#[derive(Clone, Copy)]
 pub enum Refs {
     Levels(u16),
     Bad,

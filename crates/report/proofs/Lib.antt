@@ -1,1 +1,3 @@
 pub mod ReportLaws
+pub mod Example
+pub mod Claims

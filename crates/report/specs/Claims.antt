@@ -15,7 +15,7 @@ use Rattle.errors.specs.Rows.{row_at}
 use Rattle.answers.specs.declared.Totals.{Totals}
 use Rattle.answers.specs.declared.Answer.{Answer}
 use Rattle.answers.specs.declared.Answer.TheVariants as answer
-use Rattle.answers.specs.Lent.{Lent, too_short, answer_number, answer_place}
+use Rattle.answers.specs.Lent.{Lent, answer_number, answer_place}
 use Rattle.checker.specs.Check.{check_of}
 use Rattle.checker.specs.Claims.{made_forms}
 use Rattle.output.specs.Output.{zeros, newline}
@@ -24,7 +24,6 @@ use Rattle.report_text.specs.declared.Reported.TheVariants.{Written, NoRoom}
 use Rattle.report_text.specs.Lines.{answer_line, type_text, type_line}
 use Rattle.report_text.specs.Written.{text_of}
 use Rattle.report.specs.Report.{Told, told, report_text, report_of}
-use Rattle.report.specs.Example.{example, example_output, example_reported}
 
 -- a refusal
 alone : (a : Answer) (nodes vars types : List ℕ) (errors : ℕ → ErrorRow) → (answer_number a ≡ 0 → ⊥) → text_of a nodes vars types errors ≡ answer_line (answer_number a) (answer_place a)
@@ -89,10 +88,3 @@ module _ (s : List ℕ) (l : Lent) (o : List ℕ) where
   pub refusal_alone : (answer_number (check_of s l).answer ≡ 0 → ⊥) → report_text s l ≡ answer_line (answer_number (check_of s l).answer) (answer_place (check_of s l).answer)
   unfolding report_text
   refusal_alone h = alone (check_of s l).answer (check_of s l).tables.nodes (check_of s l).tables.vars (check_of s l).tables.types (row_at (check_of s l).tables.errors) h
-
--- document 01's worked body: with any tables that are long enough and room for it, the output begins with the report that stands there, and the bytes after it are
--- unchanged. No definition is given the example: its bytes are read, typed and printed by computation (Example)
-pub worked_example : (l : Lent) (o : List ℕ) → too_short l ≡ false → length example_output ≤ length o → (report_of example l o).output ≡ example_output ++ drop (length example_output) o
-worked_example l o h room =
-    let e : report_text example l ≡ example_output = example_reported l h in
-    ap (λ (r : Told). r.output) (with_room example l o (rw e room)) ∙ ap (λ (t : List ℕ). t ++ drop (length t) o) e

@@ -1,6 +1,5 @@
 -- Document 01's worked body, by computation: its bytes through the definitions of reader, walk, tables and text give its report, byte by byte. Assumes nothing.
 use Rattle.std.specs.Prelude.{◌≡◌, refl, List, [], ◌∷◌, ◌++◌, false, ℕ, replicate}
-use Rattle.std.proofs.Common.{ap, ◌∙◌}
 use Rattle.refs.specs.declared.Counts.{Counts}
 use Rattle.body.specs.declared.Answer.TheVariants as reading
 use Rattle.lex.specs.Text.{text, digits_from, number_of, split, parts_from, before, same}
@@ -30,7 +29,6 @@ use Rattle.output.specs.Output.{digits_of}
 use Rattle.error_lines.specs.ErrorLines.{each_text, error_text, error_line, error_lines}
 use Rattle.report_text.specs.Lines.{answer_line, type_line, type_lines, var_line, var_lines, node_line, tables_text}
 use Rattle.report_text.specs.Written.{text_of}
-use Rattle.report.specs.Report.{report_text}
 
 -- its input
 abbrev pub example : List ℕ
@@ -41,7 +39,7 @@ abbrev pub example_output : List ℕ
 example_output = text "answer=0,-\ntypes=1\ntype=var,0\nvars=1\nvar=int,8,-\nnode=8,8,-\nnode=14,8,-\nnode=14,8,14\nnode=8,8,l0\nnode=14,8,l2\nnode=8,8,-\nnode=8,8,-\nerrors=0\n"
 
 -- the text of an answer and its tables
-abbrev told_of_lem : Held → List ℕ
+abbrev pub told_of_lem : Held → List ℕ
 told_of_lem h = text_of h.answer h.tables.nodes h.tables.vars h.tables.types (row_at h.tables.errors)
 
 -- its counts
@@ -75,21 +73,16 @@ fields =
     ++ replicate 94665 0
 
 -- the reader makes these of it
-reading_is : reading_of example ≡ body.held (reading.Body counts) lines fields
+pub reading_is : reading_of example ≡ body.held (reading.Body counts) lines fields
 unfolding reading_of digits_from number_of split parts_from before same key_of forms worded fits index_of form_of form_at kind_at letter_of optional_of binary_of unary_of tag_of tagged_of pair_of read_as field_at cells_from start_of count_of parse_line store store_from fill form_in first_in count_in levels_in user_in name_in tag_in value_in refers_to is_child is_type is_expr is_typed is_last stands is_free is_local is_res right levels_of larger taken refs_from same_values is_same is_repeated in_order limit_of counted base_of deeper levels_over is_deep advance put_row repeats placed judged step_of is_ahead first_ahead finish_of lines_from body_of body.count_of
 reading_is = refl
 
 -- walked, its final types found and the tables filled, the text is the output
-text_is : (l : Lent) → told_of_lem (check.typed counts lines fields l) ≡ example_output
+pub text_is : (l : Lent) → told_of_lem (check.typed counts lines fields l) ≡ example_output
 unfolding shape_of form_in first_in count_in levels_in user_in name_in tag_in value_in refers_to is_child is_type is_expr is_typed is_last stands is_free is_local is_res right levels_of larger taken refs_from same_values is_same is_repeated choose part at_var act pass leads seek bind unify drawn appended emitted written refused marking raised interned solve run ◌>>=◌ start count_behind maybe_type maybe_node bin_op un_op res_of item numbers_from node_of node_at field_of declared_at let_at block_at type_row_of type_row_at fn_line output_of named_from field_type binds_for method_in method_from failed_from segment_name segment_res extra_of blank typed marked resolved change set_node_type set_extra set_final node_type_lem shape_of_lem all_types output new_infer_var array_of ref_to_lem fn_def_lem instance param_type make_lambda make_function mark_var error equation for_each equate_for equate_on bin_op_lem local_type type_res whole_path path two typeck_expr_bin_op typeck_local typeck_stmt stmt stmts tail typeck_block typeck_rule typeck_expr declare_types param params result typeck end_of drawn_as variable_type resolve_variable resolve_type_variable resolve_node resolve_nodes type_body made_at cells_to cells_of type_rows var_row error_rows filled digits_of each_text error_text error_line error_lines answer_line type_line type_lines var_line var_lines node_line tables_text text_of check.typed
 text_is l = refl
 
 -- what is lent is long enough: 1 and 2 are not answered
-checked : (l : Lent) → too_short l ≡ false → check_of example l ≡ (let h = reading_of example in read_by h.answer h.rows h.cells l)
+pub checked : (l : Lent) → too_short l ≡ false → check_of example l ≡ (let h = reading_of example in read_by h.answer h.rows h.cells l)
 unfolding check_of
 checked l h = rw h
-
--- whatever tables are lent that are long enough, the report of the example is document 01's
-pub example_reported : (l : Lent) → too_short l ≡ false → report_text example l ≡ example_output
-unfolding report_text
-example_reported l h = ap told_of_lem (checked l h ∙ ap (λ (r : body.Held). read_by r.answer r.rows r.cells l) reading_is) ∙ text_is l

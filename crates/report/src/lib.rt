@@ -1,4 +1,6 @@
 // `report`: checks a file, and writes its report into a lent output.
+#![tactic(auto)]
+
 ghost use Rattle.std.specs.Prelude.{◌≡◌, []};
 ghost use Rattle.answers.specs.Lent.{lent};
 ghost use Rattle.report.specs.Report.{told, report_of};

@@ -1,4 +1,6 @@
 // The lines of document 01's report, from the lent tables of `check` and the memory of its walk into a lent output.
+#![tactic(auto)]
+
 ghost use Rattle.std.specs.Prelude.{◌≡◌, ◌++◌};
 ghost use Rattle.std.proofs.Math.Option.{none, some};
 ghost use Rattle.type_table.specs.Memory.{cell, kind_of};
@@ -19,7 +21,7 @@ use forms::Fault;
 use output::Ending;
 
 // What `report` answers.
-#[derive(Drop)]
+#[derive(Clone, Copy)]
 pub enum Reported {
     // The answer of the check, and how many bytes its report has.
     Written(Answer, usize),

@@ -1,4 +1,6 @@
 // What stands around the walk: the declared types before it, and after it the equation of declared and actual result and the final types.
+#![tactic(auto)]
+
 ghost use Rattle.std.specs.Prelude.{◌≡◌, get_or};
 ghost use Rattle.std.proofs.Math.Option.{none, some};
 ghost use Rattle.type_table.specs.Memory.{origins_of};

@@ -1,4 +1,6 @@
 // The typing rules, as far as they type no other node: what a rule does once its children have their types.
+#![tactic(auto)]
+
 ghost use Rattle.std.specs.Prelude.{◌≡◌};
 ghost use Rattle.std.proofs.Math.Option.{none};
 ghost use Rattle.type_table.specs.Memory.{kind_of};
@@ -346,7 +348,7 @@ pub fn element(m: &mut [u16], c: Record, n: NodeId, i: NodeId, x: TypeId, y: Typ
 }
 
 // What is indexed: an array's element, or an error.
-#[derive(Drop)]
+#[derive(Clone, Copy)]
 pub enum Indexed {
     Element(TypeId),
     Not(Record),
@@ -488,7 +490,7 @@ pub fn let_with_init(m: &mut [u16], c: Record, n: NodeId, t: MaybeType, y: TypeI
 // ── calls ──
 
 // The callee and its output, or an error, or the record as it was.
-#[derive(Drop)]
+#[derive(Clone, Copy)]
 pub enum Called {
     Sig(Callee, TypeId),
     Not(Record),
@@ -567,7 +569,7 @@ pub fn argument(
 }
 
 // The method that a receiver of the type x has, or an error.
-#[derive(Drop)]
+#[derive(Clone, Copy)]
 pub enum Method {
     Of(DefId),
     Not(Record),

@@ -1,7 +1,9 @@
 // The record of the walk, lent by `&mut`, as `FunCx` updates it: each function over `&mut Record` copies the record, calls the covered
 // function of `record` and stores the record that comes back. Above each stands a function with plain parameters, whose contract is that
-// of `record`'s: the typing rules call those. All of these are proved by a walk of their MIR, by hand. `equate` stands above them: the error
+// of `record`'s: the typing rules call those. `equate` stands above them: the error
 // of an equation that failed is appended in the lent record like any other.
+#![tactic(auto)]
+
 ghost use Rattle.std.specs.Prelude.{◌≡◌};
 ghost use Rattle.theory.specs.Rules.{mismatch};
 ghost use Rattle.type_table.specs.Memory.{kind_of, numbered};

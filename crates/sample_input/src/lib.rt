@@ -1,7 +1,7 @@
 // What programs over recorded samples share: the samples of standard input, one after the other, and what is wrong in one to standard
 // output. The comment lines at the top of the program `replay`'s `stdin` say how a sample is written. The input may have any length: it
 // is read in parts, and one part and one sample of it are kept. Proved safe and to end; what it answers is tested by the programs.
-use libc::{STDIN_FILENO, STDOUT_FILENO};
+#![tactic(auto)]
 
 // The bytes that are read at a time.
 pub const PART: usize = 65536;
@@ -16,7 +16,7 @@ pub type Sample = [u8; SAMPLE];
 // ── samples ──
 
 // How far the input is taken.
-#[derive(Drop)]
+#[derive(Clone, Copy)]
 pub struct Place {
     // Bytes of the present part.
     pub read: usize,
@@ -25,7 +25,7 @@ pub struct Place {
 }
 
 // A line of the input, behind what a sample has of it.
-#[derive(Drop)]
+#[derive(Clone, Copy)]
 struct Line {
     // Bytes of the sample with the line.
     bytes: usize,
@@ -35,7 +35,7 @@ struct Line {
 }
 
 // A sample, and where the input goes on.
-#[derive(Drop)]
+#[derive(Clone, Copy)]
 pub struct Cut {
     // Its bytes, both lines.
     pub bytes: usize,
@@ -45,7 +45,7 @@ pub struct Cut {
 }
 
 // What comes next in the input.
-#[derive(Drop)]
+#[derive(Clone, Copy)]
 pub enum Next {
     Sample(Cut),
     End,
@@ -57,11 +57,11 @@ pub fn start() -> Place {
 }
 
 // The place, with the next part of the input where the present one is taken; it is empty at the end of the input.
-fn refilled(part: &mut Part, p: Place) -> Place {
+fn refilled(rt: &impl Input, part: &mut Part, p: Place) -> Place {
     if p.taken < p.read {
         return p;
     }
-    let n = io::read_full(STDIN_FILENO, part);
+    let n = body_input::read_full(rt, part);
     Place { read: n, taken: 0 }
 }
 
@@ -96,12 +96,12 @@ fn push(sample: &mut Sample, n: usize, b: u8) -> usize {
 
 // The next line of the input, behind the first bytes of a sample. Nothing says that it ends, so its bytes are counted down from a number
 // that no run uses up.
-fn take_line(part: &mut Part, sample: &mut Sample, from: usize, p: Place) -> Line {
+fn take_line(rt: &impl Input, part: &mut Part, sample: &mut Sample, from: usize, p: Place) -> Line {
     let mut n = from;
     let mut now = p;
     let mut left = u64::MAX;
     while left > 0 {
-        now = refilled(part, now);
+        now = refilled(rt, part, now);
         let i = now.taken;
         if now.read <= i {
             return Line {
@@ -138,9 +138,15 @@ fn begins(s: &[u8], n: usize) -> bool {
 }
 
 // The sample whose first line is there; at the end of the input its second one is empty.
-fn with_second(part: &mut Part, sample: &mut Sample, first: usize, p: Place) -> Next {
+fn with_second(
+    rt: &impl Input,
+    part: &mut Part,
+    sample: &mut Sample,
+    first: usize,
+    p: Place,
+) -> Next {
     let n = push(sample, first, b'\n');
-    let l = take_line(part, sample, n, p);
+    let l = take_line(rt, part, sample, n, p);
     let q = l.place;
     Next::Sample(Cut {
         bytes: l.bytes,
@@ -150,15 +156,15 @@ fn with_second(part: &mut Part, sample: &mut Sample, first: usize, p: Place) -> 
 }
 
 // The next sample of the input, behind the comments and empty lines before it. Their lines are counted down as bytes are.
-pub fn next_sample(part: &mut Part, sample: &mut Sample, p: Place) -> Next {
+pub fn next_sample(rt: &impl Input, part: &mut Part, sample: &mut Sample, p: Place) -> Next {
     let mut now = p;
     let mut left = u64::MAX;
     while left > 0 {
-        let l = take_line(part, sample, 0, now);
+        let l = take_line(rt, part, sample, 0, now);
         let n = l.bytes;
         let q = l.place;
         if begins(sample, n) {
-            return with_second(part, sample, n, q);
+            return with_second(rt, part, sample, n, q);
         }
         if l.last {
             return Next::End;
@@ -183,15 +189,15 @@ pub fn bytes_filled(s: &[u8], f: usize, x: u8) -> bool {
     true
 }
 
-// Names a sample and what is wrong in it, if it is; whether it is right.
-pub fn told(name: &[u8], what: &[u8], good: bool) -> bool {
+// Names a sample and what is wrong in it, if it is; whether it is right. What standard output does not take is lost.
+pub fn told(rt: &impl Print, name: &[u8], what: &[u8], good: bool) -> bool {
     if good {
         return true;
     }
-    io::write_all(STDOUT_FILENO, name);
-    io::write_all(STDOUT_FILENO, b": ");
-    io::write_all(STDOUT_FILENO, what);
-    io::write_all(STDOUT_FILENO, b"\n");
+    let _ = rt.write_all(name);
+    let _ = rt.write_all(b": ");
+    let _ = rt.write_all(what);
+    let _ = rt.write_all(b"\n");
     false
 }
 
@@ -205,10 +211,10 @@ pub fn counted(n: u64, good: bool) -> u64 {
     n
 }
 
-// A line with a count.
-pub fn put_count(what: &[u8], n: u64) {
-    io::write_all(STDOUT_FILENO, what);
-    io::write_all(STDOUT_FILENO, b"=");
-    io::print_decimal(STDOUT_FILENO, n);
-    io::write_all(STDOUT_FILENO, b"\n");
+// A line with a count. What standard output does not take is lost.
+pub fn put_count(rt: &impl Print, what: &[u8], n: u64) {
+    let _ = rt.write_all(what);
+    let _ = rt.write_all(b"=");
+    let _ = rt.print(n);
+    let _ = rt.write_all(b"\n");
 }

@@ -1,5 +1,7 @@
 // Whether what `report` left of a body agrees with what is recorded of it, for the program that replays the recorded samples. Proved safe
 // and to end; what it answers is tested by that program.
+#![tactic(auto)]
+
 ghost use Rattle.std.specs.Prelude.{◌+◌, ◌≤◌};
 
 use answers::{Answer, Totals};
@@ -172,7 +174,7 @@ fn both(a: bool, b: bool) -> bool {
 // ── the tables ──
 
 // What the tables have to hold.
-#[derive(Drop)]
+#[derive(Clone, Copy)]
 enum Held {
     // A body.
     Body(Totals),
@@ -430,10 +432,11 @@ fn answer_agrees(t: &[u8], a: Answer) -> bool {
 }
 
 // The text of n bytes that was written is the recorded one, and the bytes behind it are as before.
-fn written_agrees(name: &[u8], t: &[u8], a: Answer, n: usize, out: &[u8]) -> bool {
-    let x = sample_input::told(name, b"answer", answer_agrees(t, a));
-    let y = sample_input::told(name, b"text", same_text(t, out, n));
+fn written_agrees(rt: &impl Print, name: &[u8], t: &[u8], a: Answer, n: usize, out: &[u8]) -> bool {
+    let x = sample_input::told(rt, name, b"answer", answer_agrees(t, a));
+    let y = sample_input::told(rt, name, b"text", same_text(t, out, n));
     let z = sample_input::told(
+        rt,
         name,
         b"bytes behind the text",
         sample_input::bytes_filled(out, n, BYTE_BEFORE),
@@ -442,14 +445,15 @@ fn written_agrees(name: &[u8], t: &[u8], a: Answer, n: usize, out: &[u8]) -> boo
 }
 
 // 9 is recorded, and behind its line the answer line of the check; and the output is zero.
-fn no_room_agrees(name: &[u8], t: &[u8], a: Answer, out: &[u8]) -> bool {
+fn no_room_agrees(rt: &impl Print, name: &[u8], t: &[u8], a: Answer, out: &[u8]) -> bool {
     let k = body_text::find(t, 0, b'/');
     if t.len() <= k {
-        return sample_input::told(name, b"text", false);
+        return sample_input::told(rt, name, b"text", false);
     }
-    let x = sample_input::told(name, b"text", starts(t, b"answer=9,-\n"));
-    let y = sample_input::told(name, b"answer", answer_agrees(&t[k + 1..], a));
+    let x = sample_input::told(rt, name, b"text", starts(t, b"answer=9,-\n"));
+    let y = sample_input::told(rt, name, b"answer", answer_agrees(&t[k + 1..], a));
     let z = sample_input::told(
+        rt,
         name,
         b"bytes behind the text",
         sample_input::bytes_filled(out, 0, 0),
@@ -458,10 +462,10 @@ fn no_room_agrees(name: &[u8], t: &[u8], a: Answer, out: &[u8]) -> bool {
 }
 
 // What was answered and written is what is recorded.
-fn output_agrees(name: &[u8], t: &[u8], r: Reported, out: &[u8]) -> bool {
+fn output_agrees(rt: &impl Print, name: &[u8], t: &[u8], r: Reported, out: &[u8]) -> bool {
     match r {
-        Reported::Written(a, n) => written_agrees(name, t, a, n, out),
-        Reported::NoRoom(a) => no_room_agrees(name, t, a, out),
+        Reported::Written(a, n) => written_agrees(rt, name, t, a, n, out),
+        Reported::NoRoom(a) => no_room_agrees(rt, name, t, a, out),
     }
 }
 
@@ -469,6 +473,7 @@ fn output_agrees(name: &[u8], t: &[u8], r: Reported, out: &[u8]) -> bool {
 
 // The tables agree with the hash and the counts t that are recorded.
 fn all_tables_agree(
+    rt: &impl Print,
     name: &[u8],
     s: &[u8],
     t: &[u8],
@@ -484,15 +489,16 @@ fn all_tables_agree(
 ) -> bool {
     let x = held_by(a);
     let h = hash_all(nodes, vars, types, errors, log);
-    let y = sample_input::told(name, b"tables", tables_agree(t, x, h));
+    let y = sample_input::told(rt, name, b"tables", tables_agree(t, x, h));
     let good = rest_good(s, x, rows, cells, nodes, vars, types, errors, log, memory);
-    let z = sample_input::told(name, b"rest", good);
+    let z = sample_input::told(rt, name, b"rest", good);
     both(y, z)
 }
 
 // Whether what was answered for the body s, and what is left in its tables and its output, agrees with the second line e of its sample.
 // What is wrong is printed with the name of the sample.
 pub fn agree(
+    rt: &impl Print,
     name: &[u8],
     s: &[u8],
     e: &[u8],
@@ -509,11 +515,12 @@ pub fn agree(
 ) -> bool {
     let k = body_text::find(e, 0, b' ');
     if e.len() <= k {
-        return sample_input::told(name, b"no recorded outcome", false);
+        return sample_input::told(rt, name, b"no recorded outcome", false);
     }
-    let x = output_agrees(name, &e[k + 1..], r, out);
+    let x = output_agrees(rt, name, &e[k + 1..], r, out);
     let a = report_text::answer_of(r);
     let y = all_tables_agree(
+        rt,
         name,
         s,
         &e[0..k],
@@ -591,7 +598,7 @@ fn output_lent(n: u32) -> usize
 }
 
 // How many cells of each table and bytes of output are lent.
-#[derive(Drop)]
+#[derive(Clone, Copy)]
 pub struct Lengths {
     pub rows: usize,
     pub cells: usize,

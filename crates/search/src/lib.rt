@@ -1,4 +1,6 @@
 // The search for a variable inside a row of the memory of the crate `type_table`, which unification asks for before it binds the variable.
+#![tactic(auto)]
+
 ghost use Rattle.std.specs.Prelude.{◌≡◌};
 ghost use Rattle.type_table.specs.Memory.{inputs_from};
 ghost use Rattle.search.specs.Search.{queue, push_f, push_all, parts, Visited, Reached, Stands, LedVar, Led, Sought};
@@ -9,7 +11,7 @@ use type_table::{
 };
 
 // Where a variable stands in what a row leads to: nowhere; at the end of its bindings; inside that row. `Lost` is never met in sound tables.
-#[derive(Drop)]
+#[derive(Clone, Copy)]
 pub enum Found {
     Free,
     Ring,
@@ -17,7 +19,7 @@ pub enum Found {
     Lost,
 }
 
-#[derive(Drop)]
+#[derive(Clone, Copy)]
 enum Grown {
     Hit,
     Tail(usize),
@@ -133,7 +135,7 @@ fn reaches(m: &[u16], c: Counts, v: VarId, z: TypeId) -> bool
 }
 
 // Where a row leads: it is the variable; nowhere; to several rows; to one.
-#[derive(Drop)]
+#[derive(Clone, Copy)]
 enum Lead {
     At,
     End,

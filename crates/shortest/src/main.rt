@@ -3,11 +3,14 @@
 // and below 2^64; with `where` behind it each line has the node whose rule raised the equation and its two sides too. With any other
 // arguments nothing is printed but a line on standard error. Of a longer input 65,537 bytes are read, which is enough to decline it. Where
 // standard input cannot be read or standard output cannot be written, a line on standard error says so.
+#![tactic(auto)]
+
 use conflict_set::{Lines, Sought};
 use decimal::Decimal;
+use std::env::Env;
 
 // What is asked for.
-#[derive(Drop)]
+#[derive(Clone, Copy)]
 enum Wanted {
     Search(Sought),
     // The arguments say nothing that is known.
@@ -26,9 +29,9 @@ fn number_of(a: &[u8], n: usize) -> Decimal {
 }
 
 // With such lines, by the first argument.
-fn wanted_by(l: Lines) -> Wanted {
+fn wanted_by(rt: &impl Env, l: Lines) -> Wanted {
     let mut a = [0u8; DIGITS];
-    let n = os::arg(1, &mut a);
+    let n = quarrel_program::arg(rt, 1, &mut a);
     match number_of(&a, n) {
         Decimal::Is(b) => Wanted::Search(Sought::Shortest(l, b)),
         Decimal::Bad => Wanted::Unknown,
@@ -36,31 +39,35 @@ fn wanted_by(l: Lines) -> Wanted {
 }
 
 // By the second argument.
-fn wanted_with_second() -> Wanted {
+fn wanted_with_second(rt: &impl Env) -> Wanted {
     let mut a = [0u8; quarrel_program::WHERE];
-    let n = os::arg(2, &mut a);
+    let n = quarrel_program::arg(rt, 2, &mut a);
     if quarrel_program::is_where(&a, n) {
-        return wanted_by(Lines::Places);
+        return wanted_by(rt, Lines::Places);
     }
     Wanted::Unknown
 }
 
 // By the arguments; the program's name is one of them.
-fn search_wanted() -> Wanted {
-    let k = os::arg_count();
-    if k == 2 {
-        return wanted_by(Lines::Numbers);
+fn search_wanted(rt: &impl Env) -> Wanted {
+    if !quarrel_program::has_arg(rt, 1) {
+        return Wanted::Unknown;
     }
-    if k == 3 {
-        return wanted_with_second();
+    if !quarrel_program::has_arg(rt, 2) {
+        return wanted_by(rt, Lines::Numbers);
+    }
+    if !quarrel_program::has_arg(rt, 3) {
+        return wanted_with_second(rt);
     }
     Wanted::Unknown
 }
 
-fn main() {
-    match search_wanted() {
-        Wanted::Search(q) => quarrel_program::run(q, b"shortest"),
+fn main(rt: HostRuntime) {
+    let err = rt.stderr();
+    match search_wanted(&rt) {
+        Wanted::Search(q) => quarrel_program::run(&rt, &rt, &err, q, b"shortest"),
         Wanted::Unknown => body_input::complain(
+            &err,
             b"shortest",
             b"the arguments are a number of subsets below 2^64, and where if the places are wanted\n",
         ),

@@ -1,4 +1,6 @@
 // The cells of a lent table: one, two in a row, and zeros. What lies past the end is left out.
+#![tactic(auto)]
+
 ghost use Rattle.std.specs.Prelude.{◌≡◌, ◌∷◌, [], ◌⊎◌, ◌-◌, ◌≤◌, length, replicate, set};
 ghost use Rattle.std.proofs.lemmas.List.Edits.{sets};
 ghost use Rattle.table_cells.specs.Zeros.{zeros};

@@ -1,6 +1,8 @@
 // The tables that a check hands back, from the memory of a walk to the caller's lent slices: nodes, variables, made types, equations.
 // The used rows come first, zeros behind them to the end of the slice. A flag is 0 or 1, and a number that is not there is 0. What does
 // not fit into a slice is left out.
+#![tactic(auto)]
+
 ghost use Rattle.std.specs.Prelude.{◌≡◌, ◌∷◌, [], ◌+◌, ◌-◌, ◌*◌, ◌≤◌, length, replicate, drop};
 ghost use Rattle.std.proofs.lemmas.List.Edits.{sets};
 ghost use Rattle.type_table.specs.Memory.{cell, inputs_from};
@@ -209,7 +211,7 @@ pub fn fill_vars(m: &[u16], c: Record, t: &mut [u16])
 // ── made types ──
 
 // A type row for the table: what it does not have is 0.
-#[derive(Drop)]
+#[derive(Clone, Copy)]
 struct Fields {
     head: u16,
     number: u16,

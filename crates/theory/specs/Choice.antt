@@ -3,7 +3,7 @@ use Rattle.std.specs.Prelude.{◌≡◌, refl, ◌≢◌, ◌⊎◌, Bool, true,
 use Rattle.std.proofs.Common.{ap, inl, inr}
 use Rattle.std.proofs.Math.Decide.{ℕ_discrete}
 use Rattle.std.proofs.Math.Option.{Option, none, some}
-use Rattle.theory.specs.Rules.{Base, bool, nil, float, double, uint, int, inst, Shape, base, var, arr, ref, fn, fun, lam, err, div, base_discrete, width_discrete, success, mismatch, same, compare, left, right, differ, head, base_head, compared, choose, roles, Act, act, go, Kind, regular, integer, floating, kind_fits, kind, fits, is_regular, kinds_exchange, exchanged, as_var, param_head, array_head, error_head, diverges_head, infer_head, lambda_head}
+use Rattle.theory.specs.Rules.{Base, bool, nil, float, double, uint, int, inst, Shape, base, var, arr, ref, fn, fun, lam, err, div, base_discrete, width_discrete, success, mismatch, same, compare, left, right, differ, head, base_head, compared, choose, roles, Act, act, go, Kind, regular, integer, floating, kind_fits, fits, is_regular, kinds_exchange, exchanged, param_head, array_head, error_head, diverges_head, infer_head, lambda_head}
 use Rattle.theory.specs.Basics.{eqb_same, clash}
 
 -- a head that step 1 compares is none that another step names
@@ -82,28 +82,6 @@ choose_diverges err = refl
 choose_diverges div = refl
 
 -- ── the roles ──
-
--- kinds that fit keep their roles
-fit_kept : (k l : Kind) → kind_fits k l ≡ true → kinds_exchange k l ≡ false
-fit_kept regular l e = refl
-fit_kept integer regular e = clash (cc)
-fit_kept integer integer e = refl
-fit_kept integer floating e = refl
-fit_kept floating regular e = clash (cc)
-fit_kept floating integer e = refl
-fit_kept floating floating e = refl
-
--- where the kind test is passed, the roles are kept
-pub fits_kept : (kinds : List Kind) (v : ℕ) (s : Shape) → fits kinds (kind kinds v) s ≡ true → exchanged kinds (some v) (as_var s) ≡ false
-fits_kept kinds v (base b) e = refl
-fits_kept kinds v (var u) e = fit_kept (kind kinds v) (kind kinds u) e
-fits_kept kinds v (arr y) e = refl
-fits_kept kinds v (ref y) e = refl
-fits_kept kinds v (fn d) e = refl
-fits_kept kinds v (fun n o i) e = refl
-fits_kept kinds v (lam n o i) e = refl
-fits_kept kinds v err e = refl
-fits_kept kinds v div e = refl
 
 -- a Regular variable passes every kind test
 pub regular_fits : (kinds : List Kind) (s : Shape) → fits kinds regular s ≡ true

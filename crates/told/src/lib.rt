@@ -1,4 +1,6 @@
 // What is told of an answer in numbers, for programs that lend numbers alone: the answer's number, its place, the counts, and the bytes of the text.
+#![tactic(auto)]
+
 ghost use Rattle.std.specs.Prelude.{◌≡◌, ◌∷◌, [], ◌++◌, set};
 ghost use Rattle.std.proofs.lemmas.List.Edits.{sets};
 ghost use Rattle.body.specs.Body.{fault_number};

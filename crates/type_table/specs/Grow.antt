@@ -6,7 +6,8 @@ use Rattle.std.proofs.Math.Decide.{ℕ_discrete}
 use Rattle.theory.specs.Rules.{Shape, kids, as_var}
 use Rattle.theory.specs.Program.{St, sane, appended}
 use Rattle.theory.specs.Basics.{All, clash}
-use Rattle.theory.specs.Lift.{lower_on, good_on}
+use Rattle.theory.specs.Lift.{lower_on}
+use Rattle.theory.proofs.Lift.{good_on}
 use Rattle.theory.specs.Demand.{sane_facts}
 use Rattle.type_table.specs.declared.Counts.{Counts}
 use Rattle.type_table.specs.Memory.{most_types, most_vars, rows_at, inputs_at, arrays_at, cells, counts, first_at, count_at, inputs_from, shape_of, rows_of, kinds_of, origins_of, binds_of, marks_of, mem_of}

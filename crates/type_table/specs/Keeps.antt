@@ -10,13 +10,15 @@ use Rattle.std.proofs.Math.Numerals.{add-one}
 use Rattle.std.proofs.Math.ListN.{get_or, get_or-append, get_or-eq_default}
 use Rattle.std.proofs.Math.Seq.{set_out}
 use borrow.Author.Tests.{eq-eqb, ne_eqb, lt-leb, lt-ltb, le-ltb}
-use Rattle.theory.specs.Rules.{Shape, var, arr, ref, fn, fun, lam, base, inst, regular, bound, bind, array_head, ref_head, fn_def_head, instance_head, lambda_head, param_head, infer_head}
+use Rattle.theory.specs.Rules.{Shape, var, arr, ref, fn, fun, lam, base, inst, regular, bind, array_head, ref_head, fn_def_head, instance_head, lambda_head, param_head, infer_head}
 use Rattle.theory.specs.Program.{St, made_of, first_equal, all_below, sane, clip, drawn, appended, interned, marking as marking·T}
 use Rattle.theory.specs.Basics.{All}
 use Rattle.theory.specs.Graph.{Good}
-use Rattle.theory.specs.Lift.{lower_on, good_on}
+use Rattle.theory.specs.Lift.{lower_on}
+use Rattle.theory.proofs.Lift.{good_on}
 use Rattle.theory.specs.Demand.{read_past, clip_in}
-use Rattle.theory.specs.Start.{start, start_track}
+use Rattle.theory.specs.Start.{start}
+use Rattle.theory.proofs.Start.{start_track}
 use Rattle.type_table.specs.declared.Counts.{Counts}
 use Rattle.type_table.specs.declared.NodeId.{NodeId}
 use Rattle.type_table.specs.declared.Kind.{Kind}

@@ -1,5 +1,5 @@
 -- How a lent memory is read: its cells as rows, kinds, origins, bindings and marks. A read past the end is 0. Definitions alone.
-use Rattle.std.specs.Prelude.{List, [], ◌∷◌, Bool, true, false, ℕ, suc, zero, ◌+◌, ◌*◌, ◌≤◌, get_or, length, eqb, ltb, leb}
+use Rattle.std.specs.Prelude.{List, [], ◌∷◌, Bool, true, false, ℕ, suc, zero, ◌+◌, ◌*◌, ◌≤◌, length, eqb, ltb, leb}
 use Rattle.std.proofs.Math.Option.{Option, none, some}
 use Rattle.theory.specs.Rules.{Width, w8, w16, w32, w64, bool, nil, float, double, uint, int, inst, Shape, base, var, arr, ref, fn, fun, lam, err, div, Kind, regular, integer, floating, Mem}
 use Rattle.type_table.specs.declared.Counts.{Counts}

@@ -1,5 +1,5 @@
 -- What each public operation promises, by the definition that its contract names: its step of the theory on the tables of the memory, and that `Sound` is kept.
--- Each line cites the law that shows it.
+-- Each line cites the law that shows it. That the end which `follow` answers is reached is proofs/Promises.
 use Rattle.std.specs.Prelude.{◌≡◌, List, false, ℕ, ◌+◌, ◌≤◌, ◌<◌, get_or, length, set}
 use Rattle.std.proofs.Math.Option.{none, some}
 use Rattle.theory.specs.Rules.{arr, ref, fn, fun, lam, base, inst, row, kind, bound, bind, array_head, ref_head, fn_def_head, instance_head, lambda_head, param_head}
@@ -13,11 +13,11 @@ use Rattle.type_table.specs.declared.Kind.{Kind}
 use Rattle.type_table.specs.declared.Bound.TheVariants.{Open}
 use Rattle.type_table.specs.declared.Origin.{Origin}
 use Rattle.type_table.specs.Memory.{most_types, most_vars, cells, head_at, number_at, output_at, first_at, count_at, inputs_from, shape_of, shape_at, rows_of, kind_of, kinds_of, numbered, origins_of, binds_of, mark_at, marks_of, mem_of}
-use Rattle.type_table.specs.View.{type, kind_in, origin_in, bound_in, view_in, onward_in, end_or, end_in}
+use Rattle.type_table.specs.View.{type, kind_in, origin_in, bound_in, view_in, onward_in, end_in}
 use Rattle.type_table.specs.Made.{kind_number, origin_number, marking, binding, draw_in, intern_in, intern_of, parts_in, push_in, start_in}
 use Rattle.type_table.specs.Tables.{row_at, mark_at_lem}
 use Rattle.type_table.specs.Sound.{fixed_types, Sound, state_of, answered}
-use Rattle.type_table.specs.Reads.{row_meant, origin_meant, bound_meant, view_row, kind_read, origin_read, bound_read, follow_open, follow_same}
+use Rattle.type_table.specs.Reads.{row_meant, origin_meant, bound_meant, view_row, kind_read, origin_read, bound_read, follow_open}
 use Rattle.type_table.specs.Keeps.{laid_held, draw_state, draw_sound, array_state, array_sound, ref_state, ref_sound, fn_state, fn_sound, instance_state, instance_sound, push_state, push_sound, lambda_state, lambda_sound, function_state, function_sound, mark_state, mark_sound, bind_mem, bind_sound, start_state, start_sound}
 
 -- ── what reads; it changes nothing ──
@@ -51,10 +51,6 @@ module _ (m : List ℕ) (c : Counts) where
 -- follow: the row that it answers is bound to nothing
 pub follow_promise : {m : List ℕ} {c : Counts} → Sound m c → (x : ℕ) → onward_in m c (type (end_in m c x)) ≡ Open
 follow_promise = follow_open
-
--- and it is the end of the bindings, not the row that stands for too many of them: any other row d for that, and any more steps k, give the same
-pub follow_ends : {m : List ℕ} {c : Counts} → Sound m c → (x d k : ℕ) → c.types < k → end_or m c d k x ≡ end_in m c x
-follow_ends = follow_same
 
 -- ── what writes: its step of the theory ──
 

@@ -1,5 +1,6 @@
 // Types, variables, bindings and the pool of made types, over one lent memory of numbers. specs/Memory.antt says how a memory is read,
 // and docs/TABLES.md has its regions.
+#![tactic(auto)]
 
 ghost use Rattle.std.specs.Prelude.{◌≡◌, ℕ, ◌+◌, ◌*◌, ◌<◌, ◌≤◌, length};
 ghost use Rattle.theory.specs.Program.{clip as clip·T};
@@ -69,34 +70,34 @@ const INSTANCES_AT: usize = 46946;
 pub const MEMORY: usize = 47010;
 
 // The number of a type row.
-#[derive(Drop)]
+#[derive(Clone, Copy)]
 pub struct TypeId(pub u16);
 
 // The number of a variable (`InferId`).
-#[derive(Drop)]
+#[derive(Clone, Copy)]
 pub struct VarId(pub u16);
 
 // The number of a node (`AirId`).
-#[derive(Drop)]
+#[derive(Clone, Copy)]
 pub struct NodeId(pub u16);
 
 // The number of a definition.
-#[derive(Drop)]
+#[derive(Clone, Copy)]
 pub struct DefId(pub u16);
 
 // The number of an instance.
-#[derive(Drop)]
+#[derive(Clone, Copy)]
 pub struct InstId(pub u16);
 
 // How many rows, variables and inputs a memory holds.
-#[derive(Drop)]
+#[derive(Clone, Copy)]
 pub struct Counts {
     pub types: u16,
     pub vars: u16,
     pub inputs: u16,
 }
 
-#[derive(Drop)]
+#[derive(Clone, Copy)]
 pub enum Width {
     W8,
     W16,
@@ -105,14 +106,14 @@ pub enum Width {
 }
 
 // The inputs of a function or a lambda: where the first stands, and how many there are.
-#[derive(Drop)]
+#[derive(Clone, Copy)]
 pub struct InputRange {
     pub first: u16,
     pub count: u16,
 }
 
 // A type row, by the heads of `TyKind`. A function has its SPAN, a lambda its node, and both their output and inputs.
-#[derive(Drop)]
+#[derive(Clone, Copy)]
 pub enum Row {
     Bool,
     Uint(Width),
@@ -132,7 +133,7 @@ pub enum Row {
 }
 
 // `InferKind`.
-#[derive(Drop)]
+#[derive(Clone, Copy)]
 pub enum Kind {
     Regular,
     Integer,
@@ -140,14 +141,14 @@ pub enum Kind {
 }
 
 // The node that drew a variable; a literal's variable has none.
-#[derive(Drop)]
+#[derive(Clone, Copy)]
 pub enum Origin {
     Node(NodeId),
     Literal,
 }
 
 // A variable's binding.
-#[derive(Drop)]
+#[derive(Clone, Copy)]
 pub enum Bound {
     To(TypeId),
     Open,
@@ -371,7 +372,7 @@ pub fn bind(m: &mut [u16], c: Counts, v: VarId, z: TypeId)
 // ── drawing and making ──
 
 // A type's number, and the counts with it.
-#[derive(Drop)]
+#[derive(Clone, Copy)]
 pub struct Made {
     pub counts: Counts,
     pub ty: TypeId,

@@ -35,7 +35,8 @@ use Rattle.search.specs.Search.{seek_in, Sought, parts}
 use Rattle.unify.specs.Step.{Rec, resume, Parted, Enterable, Settled, Chased, Heeded, unsigned_in, passed_in, Met, HasRoles, Exchanges, Varied, down_to, Stepped}
 use Rattle.type_table.specs.Tables.{mark_at_lem}
 use Rattle.theory.specs.Basics.{and_both, eqb-true, last_success}
-use Rattle.theory.specs.Choice.{fits_kept, regular_fits, unfit_exchanged, number_kept, none_kept}
+use Rattle.theory.specs.Choice.{regular_fits, unfit_exchanged, number_kept, none_kept}
+use Rattle.theory.proofs.Choice.{fits_kept}
 use Rattle.type_table.specs.Heads.{head_row, var_row_lem}
 use Rattle.search.specs.Bridge.{bound_open, bound_some, no_var_row, kids_row}
 use Rattle.unify.specs.Frames.{frame_same, frame_trans, held_on, rows_same, kinds_same, marking_frame, marking_mem, binding_frame, binding_mem}

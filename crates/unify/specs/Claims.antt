@@ -12,13 +12,14 @@ use Rattle.theory.specs.Depth.{Functions, bounded}
 use Rattle.theory.specs.Start.{ordered, start}
 use Rattle.theory.specs.Solve.{solves, Fresh, Posed, Solves}
 use Rattle.theory.specs.Table.{table, outcome, stated}
-use Rattle.theory.specs.Claims as rules
+use Rattle.theory.proofs.Claims as rules
 use Rattle.type_table.specs.declared.Counts.{Counts}
 use Rattle.type_table.specs.declared.TypeId.{TypeId}
 use Rattle.type_table.specs.declared.Bound.TheVariants.{Open}
 use Rattle.type_table.specs.View.{type, onward_in, end_or, end_in}
 use Rattle.type_table.specs.Sound.{Sound, state_of}
-use Rattle.type_table.specs.Promises.{follow_promise, follow_ends}
+use Rattle.type_table.specs.Promises.{follow_promise}
+use Rattle.type_table.proofs.Promises.{follow_ends}
 use Rattle.unify.specs.declared.Answer.{Answer}
 use Rattle.unify.specs.declared.Answer.TheVariants.{Success}
 use Rattle.search.specs.Search.{binds_in}

@@ -10,7 +10,8 @@ use Rattle.std.proofs.Math.Dec.{eqb}
 use borrow.Author.Tests.{eq-eqb, ne_eqb, le-ltb, lt-leb}
 use Rattle.theory.specs.Rules.{Mem}
 use Rattle.theory.specs.Program.{clip, St, solved, raised}
-use Rattle.theory.specs.Keep.{KeptBy, Ended, solve_kept}
+use Rattle.theory.specs.Keep.{KeptBy, Ended}
+use Rattle.theory.proofs.Keep.{solve_kept}
 use Rattle.theory.specs.Demand.{clip_in}
 use Rattle.type_table.specs.declared.Counts.{Counts}
 use Rattle.type_table.specs.declared.TypeId.{TypeId}

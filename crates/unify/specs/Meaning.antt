@@ -4,8 +4,10 @@ use Rattle.std.proofs.Math.Path.{ap}
 use Rattle.theory.specs.Rules.{Out, success, mismatch, refused12, refused13, dry, Mem}
 use Rattle.theory.specs.Program.{clip}
 use Rattle.theory.specs.Ways.{Way, Kinded, Plain, den, Agrees, Failed}
-use Rattle.theory.specs.Sound.{Fair, success_exact, failed_none}
-use Rattle.theory.specs.Exist.{way, way_agrees, way_kinded}
+use Rattle.theory.specs.Sound.{Fair}
+use Rattle.theory.proofs.Sound.{success_exact, failed_none}
+use Rattle.theory.specs.Exist.{way}
+use Rattle.theory.proofs.Exist.{way_agrees, way_kinded}
 use Rattle.theory.specs.Keep.{Ended}
 use Rattle.type_table.specs.declared.Counts.{Counts}
 use Rattle.type_table.specs.declared.TypeId.{TypeId}

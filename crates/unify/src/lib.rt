@@ -1,4 +1,6 @@
 // Unification over the memory of the crate `type_table`: the equation of an expected and a got row, by steps 1 to 5 of documents 01 and 02.
+#![tactic(auto)]
+
 ghost use Rattle.std.specs.Prelude.{◌≡◌, List, ◌&&◌, ◌||◌, ℕ, ◌+◌, ◌≤◌, eqb};
 ghost use Rattle.theory.specs.Rules.{kind_fits};
 ghost use Rattle.theory.specs.Rules.{compared as compared·T, choose as choose·T};
@@ -16,7 +18,7 @@ use type_table::{
 };
 
 // The answer to an equation.
-#[derive(Drop)]
+#[derive(Clone, Copy)]
 pub enum Answer {
     Success,
     Mismatch,
@@ -64,7 +66,7 @@ fn kind_test(k: Kind, l: Kind) -> bool
 }
 
 // The variable of step 3 and the row that it meets, its kind test passed; or that the test fails.
-#[derive(Drop)]
+#[derive(Clone, Copy)]
 enum Meeting {
     Of(VarId, TypeId),
     Unfit,
@@ -131,7 +133,7 @@ fn same_var(m: &[u16], c: Counts, v: VarId, z: TypeId) -> bool
 // ── the choice of the step ──
 
 // What an inner step answers; `Dry` is never met in sound tables.
-#[derive(Drop)]
+#[derive(Clone, Copy)]
 enum Reply {
     Success,
     Mismatch,
@@ -141,7 +143,7 @@ enum Reply {
 }
 
 // What two heads call for.
-#[derive(Drop)]
+#[derive(Clone, Copy)]
 enum Decision {
     Same,
     Compare,
@@ -254,7 +256,7 @@ fn compare(m: &[u16], c: Counts, x: TypeId, y: TypeId) -> Reply
 // ── one step ──
 
 // What a step leaves: an answer, one pair of rows, or the parts of two rows.
-#[derive(Drop)]
+#[derive(Clone, Copy)]
 enum Next {
     Done(Reply),
     On(TypeId, TypeId),

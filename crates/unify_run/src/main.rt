@@ -1,9 +1,10 @@
 // Runs unification on the cases of standard input, and prints a line for each. The comment lines at the top of `stdin` say how a case is
 // written and how its line is read; each case starts from a fresh memory with the variables v, w and x (Regular), i (Integer) and
 // f (Float) as rows 14 to 18.
+#![tactic(auto)]
+
 ghost use Rattle.std.specs.Prelude.{◌≤◌, length};
 
-use libc::{STDIN_FILENO, STDOUT_FILENO};
 use type_table::{
     Bound, Counts, DefId, InputRange, InstId, Kind, Made, NodeId, Origin, Row, TypeId, VarId,
 };
@@ -12,7 +13,7 @@ use unify::Answer;
 type Memory = [u16; type_table::MEMORY];
 
 // A word: its letter and the three numbers behind it, 0 where there is none.
-#[derive(Drop)]
+#[derive(Clone, Copy)]
 struct Word {
     letter: u8,
     first: u16,
@@ -22,126 +23,126 @@ struct Word {
 
 // ── printing ──
 
-// A text.
-fn put(s: &[u8]) {
-    io::write_all(STDOUT_FILENO, s);
+// A text. What standard output does not take is lost.
+fn put(rt: &impl Print, s: &[u8]) {
+    let _ = rt.write_all(s);
 }
 
 // One byte.
-fn put_byte(b: u8) {
-    put(&[b]);
+fn put_byte(rt: &impl Print, b: u8) {
+    put(rt, &[b]);
 }
 
 // A blank and a sign.
-fn put_sign(b: u8) {
-    put(&[b' ', b]);
+fn put_sign(rt: &impl Print, b: u8) {
+    put(rt, &[b' ', b]);
 }
 
 // A blank and a number.
-fn put_number(n: u16) {
-    put_byte(b' ');
-    io::print_decimal(STDOUT_FILENO, n as u64);
+fn put_number(rt: &impl Print, n: u16) {
+    put_byte(rt, b' ');
+    let _ = rt.print(n as u64);
 }
 
 // Two numbers, parted by a comma.
-fn put_pair(a: u16, b: u16) {
-    put_number(a);
-    put_byte(b',');
-    io::print_decimal(STDOUT_FILENO, b as u64);
+fn put_pair(rt: &impl Print, a: u16, b: u16) {
+    put_number(rt, a);
+    put_byte(rt, b',');
+    let _ = rt.print(b as u64);
 }
 
 // The answer and the cause, by document 01's numbers.
-fn put_answer(a: Answer) {
+fn put_answer(rt: &impl Print, a: Answer) {
     match a {
-        Answer::Success => put_pair(0, 0),
-        Answer::Mismatch => put_pair(0, 1),
-        Answer::Refused12 => put_pair(12, 0),
-        Answer::Refused13 => put_pair(13, 0),
+        Answer::Success => put_pair(rt, 0, 0),
+        Answer::Mismatch => put_pair(rt, 0, 1),
+        Answer::Refused12 => put_pair(rt, 12, 0),
+        Answer::Refused13 => put_pair(rt, 13, 0),
     }
 }
 
 // A variable's binding, and its mark.
-fn put_variable(m: &[u16], c: Counts, v: VarId) {
+fn put_variable(rt: &impl Print, m: &[u16], c: Counts, v: VarId) {
     match type_table::bound_to(m, c, v) {
         Bound::To(x) => {
             let i = x.0;
-            put_number(i);
+            put_number(rt, i);
         }
-        Bound::Open => put_sign(b'-'),
+        Bound::Open => put_sign(rt, b'-'),
     }
     if type_table::is_marked(m, c, v) {
-        put_byte(b'n');
+        put_byte(rt, b'n');
     }
 }
 
 // What is known of v, w, x, i and f.
-fn put_variables(m: &[u16], c: Counts) {
+fn put_variables(rt: &impl Print, m: &[u16], c: Counts) {
     let mut v: u16 = 0;
     while v < 5 {
-        put_variable(m, c, VarId(v));
+        put_variable(rt, m, c, VarId(v));
         v += 1;
     }
 }
 
 // How many rows, variables and inputs there are.
-fn put_counts(c: Counts) {
+fn put_counts(rt: &impl Print, c: Counts) {
     let t = c.types;
     let v = c.vars;
     let i = c.inputs;
-    put_number(t);
-    put_number(v);
-    put_number(i);
+    put_number(rt, t);
+    put_number(rt, v);
+    put_number(rt, i);
 }
 
 // A kind.
-fn put_kind(k: Kind) {
+fn put_kind(rt: &impl Print, k: Kind) {
     match k {
-        Kind::Regular => put(b" any"),
-        Kind::Integer => put(b" int"),
-        Kind::Float => put(b" float"),
+        Kind::Regular => put(rt, b" any"),
+        Kind::Integer => put(rt, b" int"),
+        Kind::Float => put(rt, b" float"),
     }
 }
 
 // The node that drew a variable.
-fn put_origin(o: Origin) {
+fn put_origin(rt: &impl Print, o: Origin) {
     match o {
         Origin::Node(n) => {
             let i = n.0;
-            put_number(i);
+            put_number(rt, i);
         }
-        Origin::Literal => put_sign(b'-'),
+        Origin::Literal => put_sign(rt, b'-'),
     }
 }
 
 // The kind of a variable and the node that drew it.
-fn put_drawn(m: &[u16], c: Counts, v: VarId) {
+fn put_drawn(rt: &impl Print, m: &[u16], c: Counts, v: VarId) {
     let k = type_table::kind_of(m, c, v);
-    put_kind(k);
+    put_kind(rt, k);
     let o = type_table::origin_of(m, c, v);
-    put_origin(o);
+    put_origin(rt, o);
 }
 
 // A node or a SPAN, an output, and the first two inputs.
-fn put_parts(m: &[u16], n: u16, o: TypeId, r: InputRange) {
+fn put_parts(rt: &impl Print, m: &[u16], n: u16, o: TypeId, r: InputRange) {
     let b = o.0;
     let f = r.first as u32;
-    put_number(n);
-    put_number(b);
+    put_number(rt, n);
+    put_number(rt, b);
     let x = type_table::input(m, f).0;
-    put_number(x);
+    put_number(rt, x);
     let y = type_table::input(m, f + 1).0;
-    put_number(y);
+    put_number(rt, y);
 }
 
 // The parts of a lambda or of a type of functions.
-fn put_view(m: &[u16], c: Counts, x: TypeId) {
+fn put_view(rt: &impl Print, m: &[u16], c: Counts, x: TypeId) {
     match type_table::view(m, c, x) {
         Row::Lambda(n, o, r) => {
             let i = n.0;
-            put_parts(m, i, o, r);
+            put_parts(rt, m, i, o, r);
         }
-        Row::Param(k, o, r) => put_parts(m, k, o, r),
-        _ => put_sign(b'-'),
+        Row::Param(k, o, r) => put_parts(rt, m, k, o, r),
+        _ => put_sign(rt, b'-'),
     }
 }
 
@@ -185,19 +186,19 @@ fn state(m: &mut [u16]) -> Made {
 // ── words ──
 
 // An equation, its answer, and what it leaves of v, w, x, i and f.
-fn raise(m: &mut [u16], c: Counts, x: TypeId, y: TypeId) {
+fn raise(rt: &impl Print, m: &mut [u16], c: Counts, x: TypeId, y: TypeId) {
     let a = unify::unify(m, c, x, y);
-    put_answer(a);
-    put_variables(m, c);
+    put_answer(rt, a);
+    put_variables(rt, m, c);
 }
 
 // A start and an equation on the first n cells alone.
-fn raise_short(m: &mut [u16], n: u16, x: TypeId, y: TypeId) {
+fn raise_short(rt: &impl Print, m: &mut [u16], n: u16, x: TypeId, y: TypeId) {
     let k = n as usize;
     if k <= m.len() {
         let s = &mut m[..k];
         let r = state(s);
-        raise(s, r.counts, x, y);
+        raise(rt, s, r.counts, x, y);
     }
 }
 
@@ -243,7 +244,7 @@ fn level(m: &mut Memory, s: Made, n: u16) -> Made {
 }
 
 // The words that make a row or an input, or set the row made last or the counts.
-fn make(m: &mut Memory, s: Made, w: Word) -> Made {
+fn make(rt: &impl Print, m: &mut Memory, s: Made, w: Word) -> Made {
     let c = s.counts;
     let e = s.ty;
     let a = w.first;
@@ -279,14 +280,14 @@ fn make(m: &mut Memory, s: Made, w: Word) -> Made {
             ty: e,
         },
         _ => {
-            act(m, s, w);
+            act(rt, m, s, w);
             s
         }
     }
 }
 
 // The words that change a mark or bindings, or print.
-fn act(m: &mut Memory, s: Made, w: Word) {
+fn act(rt: &impl Print, m: &mut Memory, s: Made, w: Word) {
     let c = s.counts;
     let e = s.ty.0;
     let a = w.first;
@@ -301,23 +302,23 @@ fn act(m: &mut Memory, s: Made, w: Word) {
         b'u' => {
             unify::unify(m, c, x, y);
         }
-        b'=' => raise(m, c, x, y),
-        b's' => raise_short(m, a, y, TypeId(k)),
-        b'.' => put_number(e),
-        b'c' => put_counts(c),
-        b'h' => put_number(type_table::head(m, c, x)),
-        b'o' => put_drawn(m, c, v),
-        b'x' => put_view(m, c, x),
-        _ => put_sign(b'?'),
+        b'=' => raise(rt, m, c, x, y),
+        b's' => raise_short(rt, m, a, y, TypeId(k)),
+        b'.' => put_number(rt, e),
+        b'c' => put_counts(rt, c),
+        b'h' => put_number(rt, type_table::head(m, c, x)),
+        b'o' => put_drawn(rt, m, c, v),
+        b'x' => put_view(rt, m, c, x),
+        _ => put_sign(rt, b'?'),
     }
 }
 
 // A word n times, and at least once.
-fn repeat(m: &mut Memory, s: Made, w: Word, n: u16) -> Made {
+fn repeat(rt: &impl Print, m: &mut Memory, s: Made, w: Word, n: u16) -> Made {
     let mut r = s;
     let mut k = n;
     loop {
-        r = make(m, r, w);
+        r = make(rt, m, r, w);
         if k < 2 {
             return r;
         }
@@ -394,13 +395,14 @@ fn number(s: &[u8], k: u8) -> u16 {
 }
 
 // The word of a text, as often as it says.
-fn run_word(m: &mut Memory, s: Made, t: &[u8]) -> Made {
+fn run_word(rt: &impl Print, m: &mut Memory, s: Made, t: &[u8]) -> Made {
     let l = letter(t);
     let n = number(t, 0);
     let a = number(t, 1);
     let b = number(t, 2);
     let c = number(t, 3);
     repeat(
+        rt,
         m,
         s,
         Word {
@@ -414,19 +416,19 @@ fn run_word(m: &mut Memory, s: Made, t: &[u8]) -> Made {
 }
 
 // The words of a case: each follows a blank, the first of them at the place e.
-fn run_words(m: &mut Memory, s: &[u8], e: usize) {
+fn run_words(rt: &impl Print, m: &mut Memory, s: &[u8], e: usize) {
     let mut r = state(m);
     let mut at = e;
     while at < s.len() {
         let from = at + 1;
         let to = find(s, from, b' ');
-        r = run_word(m, r, &s[from..to]);
+        r = run_word(rt, m, r, &s[from..to]);
         at = to;
     }
 }
 
 // A line: a comment, or a name and the words of a case.
-fn run_line(m: &mut Memory, s: &[u8]) {
+fn run_line(rt: &impl Print, m: &mut Memory, s: &[u8]) {
     if s.len() == 0 {
         return;
     }
@@ -435,17 +437,17 @@ fn run_line(m: &mut Memory, s: &[u8]) {
     }
     *m = [0u16; type_table::MEMORY];
     let e = find(s, 0, b' ');
-    put(&s[..e]);
-    run_words(m, s, e);
-    put_byte(b'\n');
+    put(rt, &s[..e]);
+    run_words(rt, m, s, e);
+    put_byte(rt, b'\n');
 }
 
 // The lines of a text.
-fn run(m: &mut Memory, s: &[u8]) {
+fn run(rt: &impl Print, m: &mut Memory, s: &[u8]) {
     let mut at = 0;
     while at < s.len() {
         let end = find(s, at, b'\n');
-        run_line(m, &s[at..end]);
+        run_line(rt, m, &s[at..end]);
         if s.len() <= end {
             return;
         }
@@ -454,9 +456,9 @@ fn run(m: &mut Memory, s: &[u8]) {
 }
 
 // The cases of standard input, up to 65,536 bytes.
-fn main() {
+fn main(rt: HostRuntime) {
     let mut m = [0u16; type_table::MEMORY];
-    let mut text = io::large_buffer();
-    let n = io::read_full(STDIN_FILENO, &mut text);
-    run(&mut m, &text[..n]);
+    let mut text = [0u8; body_input::TEXT];
+    let n = body_input::read_full(&rt, &mut text);
+    run(&rt, &mut m, &text[..n]);
 }

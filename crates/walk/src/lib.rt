@@ -1,5 +1,7 @@
 // The walk over a body: an expression enters a block, a block its statements, a statement an expression. The levels that are left fall at
 // each expression.
+#![tactic(auto)]
+
 ghost use Rattle.std.proofs.Math.Option.{some};
 ghost use Rattle.nodes.specs.Nodes.{let_at};
 ghost use Rattle.record.specs.Encodes.{Types, Rules};
@@ -17,7 +19,7 @@ use type_table::{Kind, NodeId, TypeId};
 pub const LEVELS: u16 = 64;
 
 // Pair nodes are typed in order.
-#[derive(Drop)]
+#[derive(Clone, Copy)]
 enum Pair {
     Types(Record, TypeId, TypeId),
     Refused(u8, Record, NodeId),

@@ -1,6 +1,6 @@
 -- A type stands behind those in it and a node behind its children; at most 4 of fun stand in fun, and at most 64 nodes in one another.
 -- Assumes nothing.
-use Rattle.std.specs.Prelude.{ℕ, ◌+◌, ◌-◌, ◌<◌, ◌≤◌, ◌≡◌, refl, List, [], ◌∷◌, Bool, true, false, cond, ltb, eqb, length}
+use Rattle.std.specs.Prelude.{ℕ, ◌+◌, ◌-◌, ◌<◌, ◌≤◌, ◌≡◌, refl, List, [], ◌∷◌, Bool, true, false, cond, ltb, eqb}
 use Rattle.std.proofs.Common.{zero-add, ap}
 use native.Mathlib.Omega.{arith}
 use borrow.Author.Tests.{le-leb, eqb-true}
@@ -10,7 +10,7 @@ use Rattle.refs.specs.Refs.{nodes_at, fn_at, fixed_types, form_in, first_in, cou
 use Rattle.body.specs.Body.{count_of, base_of, deeper, levels_over}
 use Rattle.well_formed.specs.Good.{written_as, FieldGood, RowGood, kind_in, behind, WellFormed}
 use Rattle.well_formed.specs.UsedOnce.{ChildAt}
-use Rattle.well_formed.specs.Weight.{deeper_more, node_good, node_level, child_levels}
+use Rattle.well_formed.specs.Weight.{deeper_more, node_good}
 
 -- the field j of the type row i is the declared type of the row x
 pub record TypeIn (rows cells : List ℕ) (i j x : ℕ) : Type 0 where
@@ -109,19 +109,6 @@ module _ (n : Counts) (rows cells : List ℕ) (w : WellFormed n rows cells) wher
   pub child_lower : (a i x : ℕ) → a < n.nodes → ChildAt rows cells (nodes_at + a) i x → x < a
   unfolding behind
   child_lower a i x h c = omega (arith, c.value, (((node_good n rows cells w a h).fields i c.there).child c.child).lower)
-
-  -- and fewer levels
-  pub child_fewer : (a i x : ℕ) → a < n.nodes → ChildAt rows cells (nodes_at + a) i x → levels_in rows (nodes_at + x) < levels_in rows (nodes_at + a)
-  child_fewer a i x h c = rw c.value at (child_levels n rows cells w a h i c.there c.child)
-
-  -- of nodes each a child of the one before, there are no more than the first has levels
-  nodes_levels : (a : ℕ) (xs : List ℕ) → a < n.nodes → Chain (Parent rows cells) (a ∷ xs) → length (a ∷ xs) ≤ levels_in rows (nodes_at + a)
-  nodes_levels a [] h c = node_level n rows cells w a h
-  nodes_levels a (x ∷ xs) h ((i, t), c) = omega (arith, child_fewer a i x h t, nodes_levels x xs (omega (arith, child_lower a i x h t)) c)
-
-  -- so at most 64
-  pub nodes_nested : (a : ℕ) (xs : List ℕ) → a < n.nodes → Chain (Parent rows cells) (a ∷ xs) → length (a ∷ xs) ≤ 64
-  nodes_nested a xs h c = omega (arith, nodes_levels a xs h c, w.depth a h)
 
   -- a child of `fn` is a node
   pub fn_child : (i x : ℕ) → ChildAt rows cells fn_at i x → x < n.nodes

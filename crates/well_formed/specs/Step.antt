@@ -1,23 +1,21 @@
 -- A line that is read keeps what is known of the tables.
 -- Assumes nothing.
-use Rattle.std.specs.Prelude.{ℕ, ◌+◌, ◌*◌, ◌/◌, ◌<◌, ◌≤◌, ◌≡◌, refl, ◌⊎◌, List, Bool, true, false, cond, leb, ltb, eqb, length, take, drop}
-use Rattle.std.proofs.Common.{zero-add, arith, sym, ap, ◌∙◌, inl, inr, true≢false, length-drop, length-take-le, ltb-true, ltb-false, leb-true, eqb-true}
+use Rattle.std.specs.Prelude.{ℕ, ◌+◌, ◌*◌, ◌<◌, ◌≤◌, ◌≡◌, refl, ◌⊎◌, List, Bool, true, false, cond, leb, ltb, eqb, length}
+use Rattle.std.proofs.Common.{zero-add, arith, sym, ap, ◌∙◌, inl, inr, true≢false, ltb-true, ltb-false, leb-true, eqb-true}
 use Rattle.std.proofs.lemmas.Bool.{false≢true, eqb-false}
 use Rattle.forms.specs.declared.Cell.{Cell}
-use Rattle.forms.specs.declared.Fault.TheVariants as fault
-use Rattle.forms.specs.Form.{key_type, key_node, key_fn, key_of, form_at, kind_at, Parsed, wrong, parsed, parse_line, lay, store_from}
+use Rattle.forms.specs.Form.{key_type, key_node, key_fn, form_at, kind_at, store_from}
 use Rattle.lex.specs.Text.{before}
 use Rattle.refs.specs.declared.Counts.{Counts}
-use Rattle.refs.specs.Refs.{nodes_at, fn_at, form_in, first_in, count_in, levels_in, tag_in, value_in, levels_of, Linked, unlinked, linked, refs_from, is_same}
+use Rattle.refs.specs.Refs.{nodes_at, fn_at, form_in, first_in, count_in, levels_in, tag_in, value_in, levels_of, is_same}
 use Rattle.body.specs.declared.State.{State}
-use Rattle.body.specs.Body.{most_bytes, in_order, limit_of, count_of, base_of, counted, deeper, levels_over, is_deep, advance, put_row, repeats, Stepped, bad, next, placed, judged, valued, step_of, fault_number}
-use Rattle.well_formed.specs.Good.{written_as, behind, Attained, RowGood, Before, FnLast}
-use Rattle.well_formed.specs.Parsed.{ParsedGood, parsed_good, parsed_fault}
-use Rattle.well_formed.specs.Linked.{LinkedGood, linked_good}
-use Rattle.well_formed.specs.Stored.{stored_length, stored_before, stored_tag, stored_value, put_length, put_other, put_user, put_form, put_first, put_count, put_levels}
-use Rattle.well_formed.specs.Counting.{counted_fields, behind_new, behind_new_nodes, grown, counted_more, counted_own, counted_limited, rows_inside}
-use Rattle.well_formed.specs.Bytes.{Enough, letters, key_letters, line_enough}
-use Rattle.well_formed.specs.Zeros.{zero_line}
+use Rattle.body.specs.Body.{in_order, limit_of, count_of, base_of, counted, deeper, levels_over, is_deep, advance, put_row, repeats, Stepped, bad, next, fault_number}
+use Rattle.well_formed.specs.Good.{behind, Attained, RowGood, Before, FnLast}
+use Rattle.well_formed.specs.Parsed.{ParsedGood}
+use Rattle.well_formed.specs.Linked.{LinkedGood}
+use Rattle.well_formed.specs.Stored.{stored_before, put_other, put_user, put_form, put_first, put_count, put_levels}
+use Rattle.well_formed.specs.Counting.{counted_fields, behind_new, behind_new_nodes, grown, counted_more, counted_own, rows_inside}
+use Rattle.well_formed.specs.Bytes.{Enough}
 use Rattle.well_formed.specs.Repeats.{none_same, same_kept}
 use Rattle.well_formed.specs.Frame.{Frame, LineGood, levels_framed, line_framed, row_of_lem}
 use Rattle.well_formed.specs.Reading.{DeepRow, Reading, RowsKept, counted_key, next_apart, type_apart, kept_form, kept_first, kept_count, kept_levels, next_frame, rows_stay}
@@ -45,7 +43,7 @@ levels_over_le f a b h = by (eqb f 1) (ltb f 7) (ltb 28 f)
     by false false false = deeper_le a b h
 
 -- the row of `fn` stands behind all others
-fn_row : (n : Counts) (k m : ℕ) (rows cells : List ℕ) → k ≡ key_fn
+pub fn_row : (n : Counts) (k m : ℕ) (rows cells : List ℕ) → k ≡ key_fn
     → RowGood (behind (counted n k m) k (count_of n k)) (counted n k m).fields k (base_of k + count_of n k) rows cells
     → RowGood (counted n k m) (counted n k m).fields key_fn fn_at rows cells
 unfolding behind counted count_of base_of
@@ -107,12 +105,12 @@ line_new n k f v l cells rows e rows' p g = record {
 }
 
 -- a state that is not deep was not, and the line is not
-not_deep : (a b : Bool) → cond a true b ≡ false → (a ≡ false) × (b ≡ false)
+pub not_deep : (a b : Bool) → cond a true b ≡ false → (a ≡ false) × (b ≡ false)
 not_deep true b e = absurd (true≢false e)
 not_deep false b e = (refl, e)
 
 -- a state that is deep was, or the line is
-was_deep : (a b : Bool) → cond a true b ≡ true → (a ≡ true) ⊎ (b ≡ true)
+pub was_deep : (a b : Bool) → cond a true b ≡ true → (a ≡ true) ⊎ (b ≡ true)
 was_deep true b e = inl refl
 was_deep false b e = inr e
 
@@ -141,7 +139,7 @@ module _ (st : State) (k f : ℕ) (v : List ℕ) (l : List Cell) (cells rows : L
     (fresh : repeats k f (length l) st.counts (store_from cells st.counts.fields l) rows ≡ false)
     (links : LinkedGood (length l) st.counts (form_at f) 0 st.counts.fields (store_from cells st.counts.fields l) 0 rows e rows') where
   -- the counts before the line
-  abbrev n : Counts
+  abbrev pub n : Counts
   n = st.counts
 
   -- the counts behind it
@@ -149,19 +147,19 @@ module _ (st : State) (k f : ℕ) (v : List ℕ) (l : List Cell) (cells rows : L
   n' = counted n k (length l)
 
   -- its row
-  abbrev place : ℕ
+  abbrev pub place : ℕ
   place = base_of k + count_of n k
 
   -- its levels
-  abbrev depth : ℕ
+  abbrev pub depth : ℕ
   depth = levels_over f e
 
   -- the cells behind the line
-  abbrev stored : List ℕ
+  abbrev pub stored : List ℕ
   stored = store_from cells n.fields l
 
   -- the rows behind it
-  abbrev put : List ℕ
+  abbrev pub put : List ℕ
   put = put_row rows' place f n.fields (length l) depth
 
   -- the row is within the table
@@ -187,14 +185,14 @@ module _ (st : State) (k f : ℕ) (v : List ℕ) (l : List Cell) (cells rows : L
       (behind_new n k (length l)) (λ q. sym (behind_new_nodes n k (length l))) (omega (arith, counted_fields n k (length l))) (line_new n k f v l stored rows e rows' good links)
 
   -- its row is good
-  row_new : RowGood (behind n' k (count_of n k)) n'.fields k place put stored
+  pub row_new : RowGood (behind n' k (count_of n k)) n'.fields k place put stored
   row_new =
       row_of_lem (behind n' k (count_of n k)) n'.fields k place f n.fields (length l) depth put stored line_good
       (put_form rows' place f n.fields (length l) depth put_inside) (put_first rows' place f n.fields (length l) depth put_inside)
       (put_count rows' place f n.fields (length l) depth put_inside) (put_levels rows' place f n.fields (length l) depth put_inside)
 
   -- the rows behind the line are good
-  rows_new : (j i : ℕ) → (i < count_of n j) ⊎ ((j ≡ k) × (i ≡ count_of n j)) → RowGood (behind n' j i) n'.fields j (base_of j + i) put stored
+  pub rows_new : (j i : ℕ) → (i < count_of n j) ⊎ ((j ≡ k) × (i ≡ count_of n j)) → RowGood (behind n' j i) n'.fields j (base_of j + i) put stored
   rows_new j i (inl h) =
       rows_stay n k reading.limited hk room rows put rows-kept cells stored (length l) reading.good (tag_before cells n.fields l) (value_before cells n.fields l) j i h
   rows_new j i (inr q) = rw (q.1, q.0) row_new
@@ -204,14 +202,14 @@ module _ (st : State) (k f : ℕ) (v : List ℕ) (l : List Cell) (cells rows : L
   place_apart j i = next_apart n j k i reading.limited hk room
 
   -- no row behind the line is deep unless the state says so
-  levels_new : (j i : ℕ) → (i < count_of n j) ⊎ ((j ≡ k) × (i ≡ count_of n j)) → (st.deep ≡ false) × (is_deep k depth ≡ false)
+  pub levels_new : (j i : ℕ) → (i < count_of n j) ⊎ ((j ≡ k) × (i ≡ count_of n j)) → (st.deep ≡ false) × (is_deep k depth ≡ false)
       → is_deep j (levels_in put (base_of j + i)) ≡ false
   levels_new j i (inl h) d =
       rw (kept_levels place rows put rows-kept (base_of j + i) (place_apart j i h)) (reading.levels d.0 j i h)
   levels_new j i (inr q) d = rw (q.1, q.0, put_levels rows' place f n.fields (length l) depth put_inside) d.1
 
   -- where the state says so, a row behind the line is too deep
-  deep_new : (st.deep ≡ true) ⊎ (is_deep k depth ≡ true) → DeepRow n' put
+  pub deep_new : (st.deep ≡ true) ⊎ (is_deep k depth ≡ true) → DeepRow n' put
   deep_new (inl d) = by (reading.deep_there d)
     where
       by : DeepRow n rows → DeepRow n' put
@@ -229,7 +227,7 @@ module _ (st : State) (k f : ℕ) (v : List ℕ) (l : List Cell) (cells rows : L
   )
 
   -- no row behind the line is of a key behind the line's
-  keys_new : (j i : ℕ) → (i < count_of n j) ⊎ ((j ≡ k) × (i ≡ count_of n j)) → j ≤ k
+  pub keys_new : (j i : ℕ) → (i < count_of n j) ⊎ ((j ≡ k) × (i ≡ count_of n j)) → j ≤ k
   keys_new j i (inl h) = omega (arith, reading.keys j i h)
   keys_new j i (inr q) = omega (arith, q.0)
 
@@ -249,7 +247,7 @@ module _ (st : State) (k f : ℕ) (v : List ℕ) (l : List Cell) (cells rows : L
   none_later j i (inr q) (inr b) = omega (arith, ap (count_of n) b.0, b.1, q.1)
 
   -- the fields behind the line are in the order of the rows
-  ordered_new : (j i j' i' : ℕ) → (i < count_of n j) ⊎ ((j ≡ k) × (i ≡ count_of n j)) → (i' < count_of n j') ⊎ ((j' ≡ k) × (i' ≡ count_of n j')) → Before j i j' i'
+  pub ordered_new : (j i j' i' : ℕ) → (i < count_of n j) ⊎ ((j ≡ k) × (i ≡ count_of n j)) → (i' < count_of n j') ⊎ ((j' ≡ k) × (i' ≡ count_of n j')) → Before j i j' i'
       → first_in put (base_of j + i) + count_in put (base_of j + i) ≤ first_in put (base_of j' + i')
   ordered_new j i j' i' (inl h) (inl h') b =
       omega (arith, end_kept j i h, kept_first place rows put rows-kept (base_of j' + i') (place_apart j' i' h'), reading.ordered j i j' i' h h' b)
@@ -262,7 +260,7 @@ module _ (st : State) (k f : ℕ) (v : List ℕ) (l : List Cell) (cells rows : L
   fn_place q = rw q
 
   -- the fields of `fn` stand behind all others
-  fn_last_new : k ≡ key_fn → FnLast n' put
+  pub fn_last_new : k ≡ key_fn → FnLast n' put
   fn_last_new q j i h = by (grown n k (length l) j i h)
     where
       by : (i < count_of n j) ⊎ ((j ≡ k) × (i ≡ count_of n j)) → first_in put (base_of j + i) + count_in put (base_of j + i) ≤ first_in put fn_at
@@ -287,7 +285,7 @@ module _ (st : State) (k f : ℕ) (v : List ℕ) (l : List Cell) (cells rows : L
   type_inside i h = rw (zero-add i) at (reading.good key_type i h).inside
 
   -- two types that stood stay apart
-  distinct_old : (i j : ℕ) → i < j → j < n.types → is_same put stored i (form_in put j) (first_in put j) (count_in put j) ≡ false
+  pub distinct_old : (i j : ℕ) → i < j → j < n.types → is_same put stored i (form_in put j) (first_in put j) (count_in put j) ≡ false
   distinct_old i j h b =
       rw (type_form j b, type_first j b, type_count j b)
       (same_kept n.fields cells stored (value_before cells n.fields l) rows put i (form_in rows j) (first_in rows j) (count_in rows j)
@@ -300,12 +298,12 @@ module _ (st : State) (k f : ℕ) (v : List ℕ) (l : List Cell) (cells rows : L
   fresh_same i q h = rw (zero-add i) at (none_same n.types 0 rows stored f n.fields (length l) i (rw q at fresh) h)
 
   -- the row of a line of a type
-  type_place : k ≡ key_type → n.types ≡ place
+  pub type_place : k ≡ key_type → n.types ≡ place
   unfolding base_of count_of
   type_place q = rw q (sym (zero-add n.types))
 
   -- a type that stood is not equal to the line's row
-  distinct_line : (i : ℕ) → k ≡ key_type → i < n.types → is_same put stored i (form_in put place) (first_in put place) (count_in put place) ≡ false
+  pub distinct_line : (i : ℕ) → k ≡ key_type → i < n.types → is_same put stored i (form_in put place) (first_in put place) (count_in put place) ≡ false
   distinct_line i q h =
       rw (
         put_form rows' place f n.fields (length l) depth put_inside,
@@ -315,34 +313,10 @@ module _ (st : State) (k f : ℕ) (v : List ℕ) (l : List Cell) (cells rows : L
       (same_kept (n.fields + length l) stored stored (λ j b. refl) rows put i f n.fields (length l)
       (type_form i h) (type_first i h) (type_count i h) (omega (arith, type_inside i h)) (omega arith) ∙ fresh_same i q h)
 
-  -- no two type rows behind the line are equal
-  distinct_new : (i j : ℕ) → i < j → (j < n.types) ⊎ ((key_type ≡ k) × (j ≡ n.types))
-      → is_same put stored i (form_in put j) (first_in put j) (count_in put j) ≡ false
-  distinct_new i j h (inl b) = distinct_old i j h b
-  distinct_new i j h (inr q) = rw (q.1 ∙ type_place (sym q.0)) (distinct_line i (sym q.0) (omega (arith, q.1)))
-
   -- a type behind the line stood before it or is the line's
-  type_grown : (j : ℕ) → j < n'.types → (j < n.types) ⊎ ((key_type ≡ k) × (j ≡ n.types))
+  pub type_grown : (j : ℕ) → j < n'.types → (j < n.types) ⊎ ((key_type ≡ k) × (j ≡ n.types))
   unfolding count_of
   type_grown = grown n k (length l) key_type
-
-  -- what is known of the tables holds behind the line
-  placed_reading : Reading (advance st k (length l) depth) stored put
-  unfolding advance
-  placed_reading = record {
-    rows_long = omega (arith, put_length rows' place f n.fields (length l) depth, links.same_length, reading.rows_long);
-    cells_long = omega (arith, stored_length cells n.fields l, reading.cells_long);
-    limited = counted_limited n k (length l) reading.limited room;
-    keys = λ j i h. keys_new j i (grown n k (length l) j i h);
-    good = λ j i h. rows_new j i (grown n k (length l) j i h);
-    fn = λ q. fn_row n k (length l) put stored q row_new;
-    ordered = λ j i j' i' h h'. ordered_new j i j' i' (grown n k (length l) j i h) (grown n k (length l) j' i' h');
-    fn_last = fn_last_new;
-    distinct = λ i j h b. distinct_new i j h (type_grown j b);
-    levels = λ d j i h. levels_new j i (grown n k (length l) j i h) (not_deep st.deep (is_deep k depth) d);
-    deep_there = λ d. deep_new (was_deep st.deep (is_deep k depth) d);
-    zero = zero_line n k reading.limited hk room f l depth rows rows' cells links.outside reading.zero;
-  }
 
 -- a step behind which the tables are as they should be, and b bytes are enough for the fields, or a fault that is not of levels
 abbrev pub GoodStep : ℕ → Stepped → Type 0
@@ -362,69 +336,11 @@ in_order_lem was k e = by (ltb k was) refl (eqb was key_fn) refl (leb k key_fn) 
     by false o false u false p e = absurd (false≢true e)
 
 -- the nodes are within the table
-nodes_inside : (st : State) (cells rows : List ℕ) → Reading st cells rows → (nodes_at + st.counts.nodes) * 5 ≤ length rows
+pub nodes_inside : (st : State) (cells rows : List ℕ) → Reading st cells rows → (nodes_at + st.counts.nodes) * 5 ≤ length rows
 unfolding count_of limit_of
 nodes_inside st cells rows r = let most : st.counts.nodes ≤ 1024 = r.limited 4 in omega (arith, most, r.rows_long)
 
 -- the fields behind a line
-fields_advance : (st : State) (k m d b : ℕ) → Enough b (st.counts.fields + m) → Enough b (advance st k m d).counts.fields
+pub fields_advance : (st : State) (k m d b : ℕ) → Enough b (st.counts.fields + m) → Enough b (advance st k m d).counts.fields
 unfolding advance counted
 fields_advance st k m d b h = h
-
--- a line whose value was parsed
-judged_good : (st : State) (k f : ℕ) (v : List ℕ) (l : List Cell) (cells rows : List ℕ) (b : ℕ) → Reading st cells rows → k < 6 → st.key ≤ k → ParsedGood k v f l
-    → (st.counts.fields + length l) * 3 ≤ length cells → Enough b (st.counts.fields + length l)
-    → GoodStep b (judged st k f (length l) (store_from cells st.counts.fields l) rows)
-unfolding judged placed
-judged_good st k f v l cells rows b reading hk later good wide fits =
-    by (ltb (count_of st.counts k) (limit_of k)) refl (repeats k f (length l) st.counts stored rows) refl
-    (refs_from (length l) st.counts (form_at f) 0 st.counts.fields stored 0 rows) refl
-  where
-    stored : List ℕ
-    stored = store_from cells st.counts.fields l
-
-    written : (a : ℕ) → a < length l → written_as (kind_at (form_at f) (0 + a) / 16) (tag_in stored (st.counts.fields + a)) (value_in stored (st.counts.fields + a)) ≡ true
-    written a h = rw (zero-add a, stored_tag cells st.counts.fields l a h wide, stored_value cells st.counts.fields l a h wide) (good.written a h)
-
-    by : (c : Bool) → ltb (count_of st.counts k) (limit_of k) ≡ c → (d : Bool) → repeats k f (length l) st.counts stored rows ≡ d
-        → (r : Linked) → refs_from (length l) st.counts (form_at f) 0 st.counts.fields stored 0 rows ≡ r
-        → GoodStep b (cond c (cond d (bad fault.Reference) (placed st k f (length l) stored r)) (bad fault.Limit))
-    by false p d u r q = omega arith
-    by true p true u r q = omega arith
-    by true p false u (unlinked r) q = omega arith
-    by true p false u (linked e rows') q = (
-      placed_reading st k f v l cells rows e rows' reading hk later (ltb-true (count_of st.counts k) (limit_of k) p) good u
-          (linked_good (length l) st.counts (form_at f) 0 st.counts.fields stored 0 rows e rows' (nodes_inside st cells rows reading) written q),
-      fields_advance st k (length l) (levels_over f e) b fits,
-    )
-
--- a line whose key and value are known
-valued_good : (st : State) (k : ℕ) (v : List ℕ) (cells rows : List ℕ) (a b : ℕ) (p : Parsed) → parse_line k v ≡ p → Reading st cells rows → k < 6 → st.key ≤ k
-    → Enough a st.counts.fields → a + (letters k + length v + 2) ≤ b → b ≤ most_bytes → GoodStep b (valued st k (lay p cells st.counts.fields) rows)
-valued_good st k v cells rows a b (wrong x l) q reading hk later had fits most = parsed_fault k v x l q
-valued_good st k v cells rows a b (parsed f l) q reading hk later had fits most =
-    let good : ParsedGood k v f l = parsed_good k v f l q in
-    let all : Enough b (st.counts.fields + length l) = omega (arith, line_enough k f v l good) in
-    judged_good st k f v l cells rows b reading hk later good (omega (arith, all, reading.cells_long)) all
-
--- a line behind b bytes keeps what is known of the tables, and its own bytes are enough for its fields
-pub step_good : (l : List ℕ) (b : ℕ) (st : State) (cells rows : List ℕ) → Reading st cells rows → Enough b st.counts.fields → b + length l + 1 ≤ most_bytes
-    → GoodStep (b + length l + 1) (step_of l st cells rows)
-unfolding step_of
-step_good l b st cells rows reading enough most = by (ltb (before 61 l) (length l)) refl (in_order st.key (key_of (take (before 61 l) l))) refl
-  where
-    k : ℕ
-    k = key_of (take (before 61 l) l)
-
-    v : List ℕ
-    v = drop (before 61 l + 1) l
-
-    by : (a : Bool) → ltb (before 61 l) (length l) ≡ a → (c : Bool) → in_order st.key k ≡ c
-        → GoodStep (b + length l + 1) (cond a (cond c (valued st k (lay (parse_line k v) cells st.counts.fields) rows) (bad fault.Form)) (bad fault.Form))
-    by true p true q =
-        let sign : before 61 l < length l = ltb-true (before 61 l) (length l) p in
-        let word : letters k ≤ length (take (before 61 l) l) = key_letters (take (before 61 l) l) (in_order_lem st.key k q).0 in
-        valued_good st k v cells rows b (b + length l + 1) (parse_line k v) refl reading (in_order_lem st.key k q).0 (in_order_lem st.key k q).1 enough
-        (omega (arith, word, length-take-le (before 61 l) l (omega (arith, sign)), length-drop (before 61 l + 1) l, sign)) most
-    by true p false q = omega arith
-    by false p c q = omega arith

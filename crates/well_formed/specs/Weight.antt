@@ -63,7 +63,7 @@ cond_le true false x y h g = absurd (false≢true (h refl))
 cond_le false c x y h g = omega arith
 
 -- the sum of no larger numbers over the children of a row is no larger
-below_le : (W W' : ℕ → ℕ) (rows cells : List ℕ) (r : ℕ)
+pub below_le : (W W' : ℕ → ℕ) (rows cells : List ℕ) (r : ℕ)
     → ((i : ℕ) → i < count_in rows r → has_child rows cells r i ≡ true → W (child_in rows cells r i) ≤ W' (child_in rows cells r i))
     → below W rows cells r ≤ below W' rows cells r
 unfolding part_of
@@ -135,27 +135,6 @@ module _ (n : Counts) (rows cells : List ℕ) (w : WellFormed n rows cells) wher
     pub child_levels : levels_in rows (nodes_at + child_in rows cells (nodes_at + x) i) < levels_in rows (nodes_at + x)
     unfolding levels_of
     child_levels = deeper_more _ _ (rw (c, node_deeper (form_in rows (nodes_at + x)) _ (node_good x h).form (node_good x h).key) at ((node_good x h).levels i b)) (w.depth x h)
-
-  -- a depth of as many levels as the node has reaches every node
-  weight_enough : (l l' x : ℕ) → x < n.nodes → levels_in rows (nodes_at + x) ≤ l' → weight rows cells l x ≤ weight rows cells l' x
-  unfolding weight
-  weight_enough zero l' x h d = omega arith
-  weight_enough (suc l) zero x h d = absurd (omega (arith, node_level x h))
-  weight_enough (suc l) (suc l') x h d =
-      omega (
-        arith,
-        below_le (weight rows cells l) (weight rows cells l') rows cells (nodes_at + x)
-            (λ i b c. weight_enough l l' (child_in rows cells (nodes_at + x) i) (child_lower x h i b c) (omega (arith, child_levels x h i b c))),
-      )
-
-  -- so a greater depth changes nothing
-  pub weight_fixed : (l l' x : ℕ) → x < n.nodes → levels_in rows (nodes_at + x) ≤ l → levels_in rows (nodes_at + x) ≤ l' → weight rows cells l x ≡ weight rows cells l' x
-  weight_fixed l l' x h d d' = omega (arith, weight_enough l l' x h d', weight_enough l' l x h d)
-
-  -- a tree has its root and the trees of its children
-  pub weight_tree : (l x : ℕ) → x < n.nodes → levels_in rows (nodes_at + x) ≤ l → weight rows cells l x ≡ 1 + below (weight rows cells l) rows cells (nodes_at + x)
-  unfolding weight
-  weight_tree l x h d = weight_fixed l (suc l) x h d (omega arith)
 
 module _ (rows cells : List ℕ) (N : ℕ) (W : ℕ → ℕ) where
   -- W of the node x, where its user is at most b

@@ -1,23 +1,20 @@
 -- A body that was read has well-formed tables.
 -- Assumes nothing.
-use Rattle.std.specs.Prelude.{ℕ, zero, suc, ◌+◌, ◌-◌, ◌<◌, ◌≤◌, ◌≡◌, refl, List, [], ◌∷◌, Bool, true, false, cond, ltb, eqb, length}
-use Rattle.std.proofs.Common.{zero-add, add-zero, arith, ap, ◌∙◌, ltb-false, leb-false, eqb-true}
+use Rattle.std.specs.Prelude.{ℕ, zero, suc, ◌+◌, ◌<◌, ◌≤◌, ◌≡◌, refl, List, Bool, true, false, cond, eqb, length}
+use Rattle.std.proofs.Common.{zero-add, add-zero, arith, ap, ◌∙◌, ltb-false, leb-false}
 use Rattle.std.proofs.lemmas.Bool.{false≢true}
 use Rattle.std.proofs.lemmas.List.{length-replicate}
-use Rattle.lex.specs.Text.{parts_from}
-use Rattle.forms.specs.declared.Fault.TheVariants as fault
 use Rattle.forms.specs.Form.{key_type, key_def, key_inst, key_bind, key_node, key_fn}
 use Rattle.refs.specs.declared.Counts.{Counts}
 use Rattle.refs.specs.Refs.{nodes_at, form_in, first_in, levels_in, value_in}
 use Rattle.body.specs.declared.State.{State}
 use Rattle.body.specs.declared.Answer.TheVariants as answer
-use Rattle.body.specs.Body.{most_bytes, rows_length, cells_length, no_rows, first, limit_of, count_of, base_of, is_deep, Stepped, bad, next, step_of, is_ahead, first_ahead, Ended, refused, read, finish_of, proceed, lines_from, Held, held, zeros, settle, body_of}
+use Rattle.body.specs.Body.{most_bytes, rows_length, cells_length, no_rows, first, limit_of, count_of, base_of, is_deep, Stepped, bad, next, is_ahead, first_ahead, Ended, refused, read, proceed, Held, zeros, settle}
 use Rattle.well_formed.specs.Good.{WellFormed}
-use Rattle.well_formed.specs.Parsed.{size, parts_size}
 use Rattle.well_formed.specs.Bytes.{Enough}
 use Rattle.well_formed.specs.Zeros.{ZeroBehind, zeros_behind}
 use Rattle.well_formed.specs.Reading.{Reading}
-use Rattle.well_formed.specs.Step.{GoodStep, step_good}
+use Rattle.well_formed.specs.Step.{GoodStep}
 
 -- where no row of m is ahead, the row i is not
 none_ahead : (m r : ℕ) (n : Counts) (cells rows : List ℕ) (i : ℕ) → r + m ≤ first_ahead m r n cells rows → i < m → is_ahead (r + i) n cells rows ≡ false
@@ -43,12 +40,12 @@ unfolding is_ahead
 def_there r n cells rows h e = leb-false n.defs (value_in cells (first_in rows r)) (rw e at h)
 
 -- an end at which the tables are well-formed and zero past the used rows, or a fault
-abbrev Fine : Ended → Type 0
+abbrev pub Fine : Ended → Type 0
 Fine (refused x l) = Unit {0}
 Fine (read n cells rows) = WellFormed n rows cells × ZeroBehind n rows cells
 
 -- what is known behind the last line
-ending : (st : State) (cells rows : List ℕ) → Reading st cells rows → Enough most_bytes st.counts.fields → st.key ≡ key_fn
+pub ending : (st : State) (cells rows : List ℕ) → Reading st cells rows → Enough most_bytes st.counts.fields → st.key ≡ key_fn
     → st.counts.types ≤ first_ahead st.counts.types 0 st.counts cells rows → st.deep ≡ false → WellFormed st.counts rows cells
 unfolding count_of limit_of base_of is_deep
 ending st cells rows r b k a d = record {
@@ -77,40 +74,11 @@ ending st cells rows r b k a d = record {
   depth = λ i h. ltb-false 64 (levels_in rows (nodes_at + i)) (r.levels d key_node i h);
 }
 
--- what is judged behind the last line
-finish_good : (st : State) (l : ℕ) (cells rows : List ℕ) → Reading st cells rows → Enough most_bytes st.counts.fields → Fine (finish_of st l cells rows)
-unfolding finish_of
-finish_good st l cells rows r b = by (eqb st.key key_fn) refl (ltb ahead st.counts.types) refl st.deep refl
-  where
-    ahead : ℕ
-    ahead = first_ahead st.counts.types 0 st.counts cells rows
-
-    by : (x : Bool) → eqb st.key key_fn ≡ x → (y : Bool) → ltb ahead st.counts.types ≡ y → (z : Bool) → st.deep ≡ z
-        → Fine (cond x (cond y (refused fault.Reference (ahead + 1)) (cond z (refused fault.Levels (l - 1)) (read st.counts cells rows))) (refused fault.Form l))
-    by false p y q z s = tt
-    by true p true q z s = tt
-    by true p false q true s = tt
-    by true p false q false s = (ending st cells rows r b (eqb-true st.key key_fn p) (ltb-false ahead st.counts.types q) s, r.zero)
-
 -- a line and those that follow
-proceed_good : (b l : ℕ) (x : Stepped) (k : State → List ℕ → List ℕ → Ended) → GoodStep b x
+pub proceed_good : (b l : ℕ) (x : Stepped) (k : State → List ℕ → List ℕ → Ended) → GoodStep b x
     → ((st : State) (cells rows : List ℕ) → Reading st cells rows → Enough b st.counts.fields → Fine (k st cells rows)) → Fine (proceed x l k)
 proceed_good b l (bad x) k g h = tt
 proceed_good b l (next st cells rows) k g h = h st cells rows g.0 g.1
-
--- the lines of a file behind b bytes of it
-lines_good : (ss : List (List ℕ)) (l b : ℕ) (st : State) (cells rows : List ℕ) → Reading st cells rows → Enough b st.counts.fields → b + size ss ≤ most_bytes + 1
-    → Fine (lines_from ss l st cells rows)
-unfolding lines_from size
-lines_good [] l b st cells rows r e h = tt
-lines_good (s ∷ []) l b st cells rows r e h = by (eqb (length s) 0)
-  where
-    by : (x : Bool) → Fine (cond x (finish_of st l cells rows) (refused fault.Form l))
-    by true = finish_good st l cells rows r (omega arith)
-    by false = tt
-lines_good (s ∷ t ∷ ts) l b st cells rows r e h =
-    proceed_good (b + length s + 1) l (step_of s st cells rows) (lines_from (t ∷ ts) (l + 1)) (step_good s b st cells rows r e (omega arith))
-    (λ st' cells' rows' r' e'. lines_good (t ∷ ts) (l + 1) (b + length s + 1) st' cells' rows' r' e' (omega arith))
 
 -- a file starts with no row of any key
 pub none_counted : (k : ℕ) → count_of no_rows k ≡ 0
@@ -143,43 +111,10 @@ start_reading rows cells hr hc = record {
 }
 
 -- where the answer is a body, the tables are well-formed and zero past the used rows
-abbrev HeldGood : Counts → Held → Type 0
+abbrev pub HeldGood : Counts → Held → Type 0
 HeldGood n h = h.answer ≡ answer.Body n → WellFormed n h.rows h.cells × ZeroBehind n h.rows h.cells
 
 -- the tables of an end
-settle_good : (x : Ended) (rows cells : List ℕ) (n : Counts) → Fine x → HeldGood n (settle x rows cells)
+pub settle_good : (x : Ended) (rows cells : List ℕ) (n : Counts) → Fine x → HeldGood n (settle x rows cells)
 settle_good (refused x l) rows cells n f e = let z : ◌≡◌ {A = ℕ} 0 1 = cc in absurd (omega arith)
 settle_good (read n' cells' rows') rows cells n f e = let same : n' ≡ n = cc in rw same at f
-
--- a file of at most 65,536 bytes over tables that are long enough
-file_good : (s rows cells : List ℕ) → length s ≤ most_bytes → rows_length ≤ length rows → cells_length ≤ length cells
-    → Fine (lines_from (parts_from 10 0 s) 1 first (zeros cells) (zeros rows))
-file_good s rows cells h hr hc =
-    lines_good (parts_from 10 0 s) 1 0 first (zeros cells) (zeros rows) (start_reading rows cells hr hc) (omega arith) (omega (arith, parts_size 10 0 s))
-
--- so are those of a body that was read
-read_good : (s rows cells : List ℕ) (n : Counts) → HeldGood n (body_of s rows cells)
-unfolding body_of
-read_good s rows cells n = by (ltb most_bytes (length s)) refl (ltb (length rows) rows_length) refl (ltb (length cells) cells_length) refl
-  where
-    whole : Ended
-    whole = lines_from (parts_from 10 0 s) 1 first (zeros cells) (zeros rows)
-
-    by : (a : Bool) → ltb most_bytes (length s) ≡ a → (b : Bool) → ltb (length rows) rows_length ≡ b → (c : Bool) → ltb (length cells) cells_length ≡ c
-        → HeldGood n (cond a (held answer.TooLong rows cells) (cond b (held answer.ShortTable rows cells) (cond c (held answer.ShortTable rows cells) (settle whole rows cells))))
-    by true p b q c r = λ e. let z : ◌≡◌ {A = ℕ} 0 1 = cc in absurd (omega arith)
-    by false p true q c r = λ e. let z : ◌≡◌ {A = ℕ} 0 1 = cc in absurd (omega arith)
-    by false p false q true r = λ e. let z : ◌≡◌ {A = ℕ} 0 1 = cc in absurd (omega arith)
-    by false p false q false r =
-        settle_good whole rows cells n
-        (file_good s rows cells (ltb-false most_bytes (length s) p) (ltb-false (length rows) rows_length q) (ltb-false (length cells) cells_length r))
-
--- a body that was read has well-formed tables
-pub read_well_formed : (s rows cells : List ℕ) (n : Counts) → (body_of s rows cells).answer ≡ answer.Body n
-    → WellFormed n (body_of s rows cells).rows (body_of s rows cells).cells
-read_well_formed s rows cells n e = (read_good s rows cells n e).0
-
--- and all of them past the used rows is zero
-pub read_zero_behind : (s rows cells : List ℕ) (n : Counts) → (body_of s rows cells).answer ≡ answer.Body n
-    → ZeroBehind n (body_of s rows cells).rows (body_of s rows cells).cells
-read_zero_behind s rows cells n e = (read_good s rows cells n e).1

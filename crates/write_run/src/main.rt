@@ -7,6 +7,8 @@
 // read, and the two tables always have the length they have to have, whatever the name says. Of a sample in which something is wrong
 // the name is printed, and what it is; and last a line each for how many samples there are, how many bodies the reader refuses, and
 // for each of the four rooms in how many it is as it has to be.
+#![tactic(auto)]
+
 ghost use Rattle.std.specs.Prelude.{◌≤◌, length};
 
 use body::Answer;
@@ -124,7 +126,7 @@ fn shorter(m: usize) -> usize {
 }
 
 // What came of a body.
-#[derive(Drop)]
+#[derive(Clone, Copy)]
 enum Outcome {
     // The reader refuses it.
     Refused,
@@ -133,7 +135,7 @@ enum Outcome {
 }
 
 // Which of the four rooms are as they have to be.
-#[derive(Drop)]
+#[derive(Clone, Copy)]
 struct Rooms {
     exact: bool,
     spare: bool,
@@ -142,25 +144,39 @@ struct Rooms {
 }
 
 // A file and its tables, through the four rooms.
-fn write_back(name: &[u8], s: &[u8], rows: &[u16], cells: &[u16], n: Counts) -> Rooms {
+fn write_back(
+    rt: &impl Print,
+    name: &[u8],
+    s: &[u8],
+    rows: &[u16],
+    cells: &[u16],
+    n: Counts,
+) -> Rooms {
     let m = s.len();
     let a = has_room(s, m, rows, cells, n);
     let b = has_room(s, longer(m), rows, cells, n);
     let c = has_no_room(shorter(m), rows, cells, n);
     let d = has_no_room(0, rows, cells, n);
     Rooms {
-        exact: sample_input::told(name, b"a room of its length", a),
-        spare: sample_input::told(name, b"a room three bytes longer", b),
-        short: sample_input::told(name, b"a room one byte short", c),
-        empty: sample_input::told(name, b"an empty room", d),
+        exact: sample_input::told(rt, name, b"a room of its length", a),
+        spare: sample_input::told(rt, name, b"a room three bytes longer", b),
+        short: sample_input::told(rt, name, b"a room one byte short", c),
+        empty: sample_input::told(rt, name, b"an empty room", d),
     }
 }
 
 // The same for an answer of the reader.
-fn write_answer(name: &[u8], s: &[u8], a: Answer, rows: &[u16], cells: &[u16]) -> Outcome {
+fn write_answer(
+    rt: &impl Print,
+    name: &[u8],
+    s: &[u8],
+    a: Answer,
+    rows: &[u16],
+    cells: &[u16],
+) -> Outcome {
     match a {
         Answer::Body(n) => {
-            let r = write_back(name, s, rows, cells, n);
+            let r = write_back(rt, name, s, rows, cells, n);
             Outcome::Written(r)
         }
         _ => Outcome::Refused,
@@ -168,40 +184,40 @@ fn write_answer(name: &[u8], s: &[u8], a: Answer, rows: &[u16], cells: &[u16]) -
 }
 
 // A file, by its bytes.
-fn run_file(name: &[u8], s: &[u8]) -> Outcome {
+fn run_file(rt: &impl Print, name: &[u8], s: &[u8]) -> Outcome {
     let mut rows = [BEFORE; body::ROWS];
     let mut cells = [BEFORE; body::CELLS];
     let a = body::read_body(s, &mut rows, &mut cells);
-    write_answer(name, s, a, &rows, &cells)
+    write_answer(rt, name, s, a, &rows, &cells)
 }
 
 // The first n bytes of a room, as a file.
-fn run_room(name: &[u8], room: &[u8], n: usize) -> Outcome {
+fn run_room(rt: &impl Print, name: &[u8], room: &[u8], n: usize) -> Outcome {
     if n <= room.len() {
-        return run_file(name, &room[0..n]);
+        return run_file(rt, name, &room[0..n]);
     }
     Outcome::Refused
 }
 
 // The first line of a sample, whose name ends at the place k.
-fn run_text(room: &mut Room, s: &[u8], k: usize) -> Outcome
+fn run_text(rt: &impl Print, room: &mut Room, s: &[u8], k: usize) -> Outcome
     requires { k ≤ length s.now }
 {
     let n = body_text::expand_line(room, s, k);
-    run_room(&s[0..k], room, n)
+    run_room(rt, &s[0..k], room, n)
 }
 
 // The first line of a sample.
-fn run_line(s: &[u8]) -> Outcome {
+fn run_line(rt: &impl Print, s: &[u8]) -> Outcome {
     let mut room = [0u8; body_text::ROOM];
     let k = body_text::find(s, 0, b' ');
-    run_text(&mut room, s, k)
+    run_text(rt, &mut room, s, k)
 }
 
 // A sample whose first line ends at k.
-fn run_sample(s: &[u8], k: usize) -> Outcome {
+fn run_sample(rt: &impl Print, s: &[u8], k: usize) -> Outcome {
     if k <= s.len() {
-        return run_line(&s[0..k]);
+        return run_line(rt, &s[0..k]);
     }
     Outcome::Refused
 }
@@ -209,7 +225,7 @@ fn run_sample(s: &[u8], k: usize) -> Outcome {
 // ── totals ──
 
 // How many samples there are, how many of their bodies the reader refuses, and in how many each of the four rooms is right.
-#[derive(Drop)]
+#[derive(Clone, Copy)]
 struct Totals {
     samples: u64,
     refused: u64,
@@ -252,7 +268,7 @@ fn with_outcome(t: Totals, o: Outcome) -> Totals {
 }
 
 // The totals of the input. Nothing says that it ends, so its samples are counted down from a number that no run uses up.
-fn run(part: &mut Part, sample: &mut Sample) -> Totals {
+fn run(rt: &(impl Input + Print), part: &mut Part, sample: &mut Sample) -> Totals {
     let mut t = Totals {
         samples: 0,
         refused: 0,
@@ -264,11 +280,11 @@ fn run(part: &mut Part, sample: &mut Sample) -> Totals {
     let mut p = sample_input::start();
     let mut left = u64::MAX;
     while left > 0 {
-        let next = sample_input::next_sample(part, sample, p);
+        let next = sample_input::next_sample(rt, part, sample, p);
         let Next::Sample(c) = next else {
             return t;
         };
-        let o = run_sample(sample, c.first);
+        let o = run_sample(rt, sample, c.first);
         t = with_outcome(t, o);
         p = c.place;
         left -= 1;
@@ -277,14 +293,14 @@ fn run(part: &mut Part, sample: &mut Sample) -> Totals {
 }
 
 // The samples of standard input.
-fn main() {
+fn main(rt: HostRuntime) {
     let mut part = [0u8; sample_input::PART];
     let mut sample = [0u8; sample_input::SAMPLE];
-    let t = run(&mut part, &mut sample);
-    sample_input::put_count(b"samples", t.samples);
-    sample_input::put_count(b"refused by the reader", t.refused);
-    sample_input::put_count(b"written back", t.exact);
-    sample_input::put_count(b"written back with room to spare", t.spare);
-    sample_input::put_count(b"full and cleared, one byte short", t.short);
-    sample_input::put_count(b"full, no byte of room", t.empty);
+    let t = run(&rt, &mut part, &mut sample);
+    sample_input::put_count(&rt, b"samples", t.samples);
+    sample_input::put_count(&rt, b"refused by the reader", t.refused);
+    sample_input::put_count(&rt, b"written back", t.exact);
+    sample_input::put_count(&rt, b"written back with room to spare", t.spare);
+    sample_input::put_count(&rt, b"full and cleared, one byte short", t.short);
+    sample_input::put_count(&rt, b"full, no byte of room", t.empty);
 }

@@ -1,0 +1,6 @@
+use Rattle.output.specs.Output.{number_text}
+use Rattle.body_write.proofs.WriteLaws.{pair_as}
+use Rattle.body_write.proofs.put_pair.Goals as goal
+
+pub returns : goal.returns
+returns c = pair_as (number_text c.args.a) (number_text c.args.v) c.put_name-d.ensures c.put_number.ensures

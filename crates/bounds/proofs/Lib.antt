@@ -1,0 +1,14 @@
+pub mod Confined
+pub mod ConfinedWalk
+pub mod Nesting
+pub mod InRows
+pub mod Made
+pub mod Answered
+pub mod Refusals
+pub mod Raised
+pub mod Newest
+pub mod Causes
+pub mod Instances
+pub mod WalkAlike
+pub mod NeverMet
+pub mod Claims

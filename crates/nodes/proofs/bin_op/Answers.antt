@@ -1,0 +1,15 @@
+use borrow.Author.Tests.{ne_eqb}
+use Rattle.nodes.specs.Nodes.{bin_op}
+use Rattle.nodes.proofs.bin_op.Goals as goal
+
+pub returns-in-0 : goal.returns-in-0
+unfolding bin_op
+returns-in-0 c = rw c.in-0.is
+
+pub returns-in-1 : goal.returns-in-1
+unfolding bin_op
+returns-in-1 c = rw c.in-1.is
+
+pub returns-in_default : goal.returns-in_default
+unfolding bin_op
+returns-in_default c = search ne_eqb

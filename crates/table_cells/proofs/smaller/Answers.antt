@@ -1,0 +1,10 @@
+use native.Mathlib.Omega.{arith}
+use mathlib.Core.Path.{refl}
+use mathlib.Core.Logic.{inl, inr}
+use Rattle.table_cells.proofs.smaller.Goals as goal
+
+pub returns-then-a-b : goal.returns-then-a-b
+returns-then-a-b c = (omega arith, omega (arith, c.if-a-b.true), inl refl)
+
+pub returns-else-a-b : goal.returns-else-a-b
+returns-else-a-b c = (omega (arith, c.if-a-b.false), omega arith, inr refl)

@@ -1,0 +1,15 @@
+pub mod Graph
+pub mod Meaning
+pub mod Choice
+pub mod Sound
+pub mod Keep
+pub mod Enough
+pub mod Exist
+pub mod Lift
+pub mod Demand
+pub mod Start
+pub mod Solve
+pub mod Pool
+pub mod Depth
+pub mod Claims
+pub mod Example
