@@ -9,7 +9,7 @@ fn main() {
     let archive = folder.join("libnunthila.a");
     println!("cargo:rerun-if-changed={}", archive.display());
     if !archive.is_file() {
-        panic!("there is no {}: build the library, or set NUNTHILA_LIB to its folder", archive.display());
+        panic!("there is no {}: run tools/build nunthila, or set NUNTHILA_LIB to its folder", archive.display());
     }
     println!("cargo:rustc-link-search=native={}", folder.display());
     println!("cargo:rustc-link-lib=static=nunthila");
