@@ -60,6 +60,7 @@ pub enum Walked {
 // ── lengths ──
 
 // Some lent table is below its length, the errors by the number of their rows.
+#[tactic(auto, unfolding(crate::specs::Lengths::too_few))]
 pub fn too_short(
     rows: &[u16],
     cells: &[u16],
@@ -71,25 +72,13 @@ pub fn too_short(
 ) -> bool
     ensures { result ≡ too_few rows.now cells.now nodes.now vars.now types.now errors memory.now }
 {
-    if rows.len() < body::ROWS {
-        return true;
-    }
-    if cells.len() < body::CELLS {
-        return true;
-    }
-    if memory.len() < MEMORY {
-        return true;
-    }
-    if nodes.len() < NODES {
-        return true;
-    }
-    if vars.len() < VARS {
-        return true;
-    }
-    if types.len() < TYPES {
-        return true;
-    }
-    errors < ERRORS
+    rows.len() < body::ROWS
+        || cells.len() < body::CELLS
+        || memory.len() < MEMORY
+        || nodes.len() < NODES
+        || vars.len() < VARS
+        || types.len() < TYPES
+        || errors < ERRORS
 }
 
 // ── tables ──
@@ -98,10 +87,7 @@ pub fn too_short(
 fn made(t: u16, d: u16) -> u16
     ensures { result ≡ t - (14 + d) }
 {
-    if (t as u32) < 14 + d as u32 {
-        return 0;
-    }
-    t - 14 - d
+    t.saturating_sub(14).saturating_sub(d)
 }
 
 // The first made type, behind the fixed types and d of the file.
@@ -115,18 +101,12 @@ fn first_made(d: u16) -> u16
 fn count(n: Counts, c: Record) -> Totals
     ensures { result ≡ counted n c }
 {
-    let d = n.types;
-    let t = c.counts.types;
-    let v = c.counts.vars;
-    let e = c.errors;
-    let q = c.equations;
-    let k = made(t, d);
     Totals {
         declared: n,
-        types: k,
-        vars: v,
-        errors: e,
-        equations: q,
+        types: made(c.counts.types, n.types),
+        vars: c.counts.vars,
+        errors: c.errors,
+        equations: c.equations,
     }
 }
 
@@ -142,12 +122,9 @@ fn fill(
 )
     ensures { Filled m.now c n nodes.old vars.old types.old log.old nodes.new vars.new types.new log.new }
 {
-    let k = n.nodes;
-    let d = n.types;
-    tables::fill_nodes(m, c, k, nodes);
+    tables::fill_nodes(m, c, n.nodes, nodes);
     tables::fill_vars(m, c, vars);
-    let f = first_made(d);
-    tables::fill_types(m, c, f, types);
+    tables::fill_types(m, c, first_made(n.types), types);
     tables::fill_log(m, c, log);
 }
 
@@ -186,10 +163,9 @@ pub fn hand_back(
     match w {
         Walked::Typed(n, c) => {
             fill(memory, c, n, nodes, vars, types, log);
-            let t = count(n, c);
-            Answer::Checked(t)
+            Answer::Checked(count(n, c))
         }
-        Walked::Declined(k, c, p) => {
+        Walked::Declined(k, _, p) => {
             clear(rows, cells, nodes, vars, types, log);
             Answer::Declined(k, p)
         }
@@ -209,10 +185,7 @@ pub fn errors_used(a: Answer) -> u16
 {
     match a {
         Answer::Checked(t) => t.errors,
-        Answer::TooLong => 0,
-        Answer::ShortTable => 0,
-        Answer::Refused(f, l) => 0,
-        Answer::Declined(k, p) => 0,
+        Answer::TooLong | Answer::ShortTable | Answer::Refused(_, _) | Answer::Declined(_, _) => 0,
     }
 }
 
@@ -221,11 +194,8 @@ pub fn errors_end(a: Answer, n: usize) -> usize
     ensures { result ≡ errors_end a n }
 {
     match a {
-        Answer::Checked(t) => n,
-        Answer::TooLong => 0,
-        Answer::ShortTable => 0,
-        Answer::Refused(f, l) => n,
-        Answer::Declined(k, p) => n,
+        Answer::Checked(_) | Answer::Refused(_, _) | Answer::Declined(_, _) => n,
+        Answer::TooLong | Answer::ShortTable => 0,
     }
 }
 
@@ -234,11 +204,10 @@ pub fn end_memory(memory: &mut [u16], a: Answer)
     ensures { memory.new ≡ memory_ended a memory.old }
 {
     match a {
-        Answer::Checked(t) => table_cells::clear(memory),
-        Answer::TooLong => {}
-        Answer::ShortTable => {}
-        Answer::Refused(f, l) => table_cells::clear(memory),
-        Answer::Declined(k, p) => table_cells::clear(memory),
+        Answer::Checked(_) | Answer::Refused(_, _) | Answer::Declined(_, _) => {
+            table_cells::clear(memory)
+        }
+        Answer::TooLong | Answer::ShortTable => {}
     }
 }
 

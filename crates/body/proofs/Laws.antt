@@ -1,15 +1,14 @@
 -- Laws of the definitions of a line and of a file, one for each way in which the code returns or goes on.
 -- Assumes nothing.
+use Rattle.std.specs.Prelude.{Err, None, Ok, Option, Result, Some}
 use Prim.Native.Nat.{ℕ, suc, ◌+◌, ◌*◌, ◌-◌, ◌<◌, ◌≤◌}
 use mathlib.Core.Path.{◌≡◌, refl, ap, sym, ◌∙◌}
-use mathlib.Core.List.{List, ◌++◌, append-nil}
+use mathlib.Core.List.{List}
 use mathlib.Core.Bool.{Bool, true, false}
 use native.Mathlib.Numerals.{add-one, add-two}
 use native.Mathlib.Omega.{arith}
-use lib.Dec.{ltb}
-use lib.ListN.{length, take, drop, set, replicate, length-drop, drop_of_length-le}
+use lib.ListN.{length, take, drop, set, length-drop, drop_of_length-le}
 use lib.Seq.{length-take-le}
-use borrow.Author.Fill.{fill_more}
 use borrow.Author.Tests.{lt-ltb, le-ltb, eq-eqb, ne_eqb}
 use Rattle.lex.specs.Text.{before, parts_from}
 use Rattle.lex.proofs.Laws.{first_part, no_part}
@@ -17,19 +16,11 @@ use Rattle.forms.proofs.Laws.{rest, short_line}
 use Rattle.forms.specs.declared.Fault.{Fault}
 use Rattle.forms.specs.declared.Fault.TheVariants as fault
 use Rattle.forms.specs.declared.Form.{Form}
-use Rattle.forms.specs.declared.Line.{Line}
-use Rattle.forms.specs.declared.Line.TheVariants as line
 use Rattle.forms.specs.Form.{key_fn, key_of, form_at, most_value, line_of, lay, shown, width_of}
 use Rattle.refs.specs.declared.Counts.{Counts}
-use Rattle.refs.specs.declared.Refs.{Refs}
-use Rattle.refs.specs.declared.Refs.TheVariants as found
 use Rattle.refs.specs.Refs.{most_fields, links_of, linking}
 use Rattle.refs.proofs.Laws.{links_all}
 use Rattle.body.specs.declared.State.{State}
-use Rattle.body.specs.declared.Step.{Step}
-use Rattle.body.specs.declared.Step.TheVariants as step
-use Rattle.body.specs.declared.End.{End}
-use Rattle.body.specs.declared.End.TheVariants as end
 use Rattle.body.specs.declared.Answer.TheVariants as answer
 use Rattle.body.specs.Body.{first, in_order, limit_of, count_of, base_of, levels_over, advance, put_row, repeats, bad, next, placed, judged, valued, step_of, is_ahead, first_ahead, Ended, refused, read, finish_of, lines_from, zeros, held, settle, body_of, stepped, ended, fields_in}
 
@@ -52,18 +43,18 @@ module _ (st : State) (k f m : ℕ) (cells rows : List ℕ) (j l : ℕ) (jq : j 
     unfolding judged
     repeated t = rw (← jq, ← lq, lt-ltb j l h, ← bq, t)
 
-    module _ (t : b ≡ false) (g : Form) (gq : g ≡ form_at f) (room : st.counts.fields + m ≤ most_fields) (r : Refs) (rows' : List ℕ) (rq : linking r rows' ≡ links_of st.counts g m cells rows) where
+    module _ (t : b ≡ false) (g : Form) (gq : g ≡ form_at f) (room : st.counts.fields + m ≤ most_fields) (r : Option ℕ) (rows' : List ℕ) (rq : linking r rows' ≡ links_of st.counts g m cells rows) where
       linked_so : judged st k f m cells rows ≡ placed st k f m cells (linking r rows')
       unfolding judged
       linked_so = rw (← jq, ← lq, lt-ltb j l h, ← bq, t, ← gq, rq, links_all st.counts g m cells rows room)
 
-      pub unlinked_line : r ≡ found.Bad → judged st k f m cells rows ≡ bad fault.Reference
+      pub unlinked_line : r ≡ None → judged st k f m cells rows ≡ bad fault.Reference
       unfolding placed
-      unlinked_line e = linked_so ∙ ap (λ (x : Refs). placed st k f m cells (linking x rows')) e
+      unlinked_line e = linked_so ∙ ap (λ (x : Option ℕ). placed st k f m cells (linking x rows')) e
 
-      pub linked_line : (d e a : ℕ) (rows'' : List ℕ) (st' : State) → r ≡ found.Levels d → e ≡ levels_over f d → a ≡ base_of k → rows'' ≡ put_row rows' (a + j) f st.counts.fields m e → st' ≡ advance st k m e → judged st k f m cells rows ≡ next st' cells rows''
+      pub linked_line : (d e a : ℕ) (rows'' : List ℕ) (st' : State) → r ≡ Some d → e ≡ levels_over f d → a ≡ base_of k → rows'' ≡ put_row rows' (a + j) f st.counts.fields m e → st' ≡ advance st k m e → judged st k f m cells rows ≡ next st' cells rows''
       unfolding placed
-      linked_line d e a rows'' st' p eq aq wq sq = linked_so ∙ ap (λ (x : Refs). placed st k f m cells (linking x rows')) p ∙ rw (sq, wq, aq, ← jq, eq)
+      linked_line d e a rows'' st' p eq aq wq sq = linked_so ∙ ap (λ (x : Option ℕ). placed st k f m cells (linking x rows')) p ∙ rw (sq, wq, aq, ← jq, eq)
 
 -- a state behind a line has that line's fields more
 pub advanced_fields : (st : State) (k m d : ℕ) (st' : State) → st' ≡ advance st k m d → st'.counts.fields ≤ st.counts.fields + m
@@ -71,7 +62,7 @@ unfolding advance Rattle.body.specs.Body.counted
 advanced_fields st k m d st' p = rw p (omega arith)
 
 -- a value's width, where it is a row
-pub width : (r : Line) (i n m : ℕ) → r ≡ line.Row i n → width_of r ≤ m → n ≤ m
+pub width : (r : Result (ℕ × ℕ) Fault) (i n m : ℕ) → r ≡ Ok (i, n) → width_of r ≤ m → n ≤ m
 width r i n m p h = rw p at h
 
 -- the length of the part from a on
@@ -83,7 +74,7 @@ pub part_length : (s : List ℕ) (p e : ℕ) → e - p ≤ length s - p → leng
 part_length s p e h = length-take-le (e - p) (drop p s) (rw length-drop h)
 
 -- the fields behind a step that goes on
-pub fields_next : (r : Step) (x : State) (m : ℕ) → r ≡ step.Next x → fields_in r ≤ m → x.counts.fields ≤ m
+pub fields_next : (r : Result State Fault) (x : State) (m : ℕ) → r ≡ Ok x → fields_in r ≤ m → x.counts.fields ≤ m
 fields_next r x m p h = rw p at h
 
 -- a line l, with its first equals sign at q
@@ -103,36 +94,33 @@ module _ (l : List ℕ) (st : State) (cells rows : List ℕ) (q : ℕ) (e : q �
     unfolding step_of
     out_of_order f = rw (at_q, lt-ltb q (length l) h, the_key, ← bq, f)
 
-    module _ (t : b ≡ true) (g : Line) (cs : List ℕ) (short : length l ≤ most_value) (gq : shown g cs ≡ lay (line_of k (take (length l - (q + 1)) (drop (q + 1) l))) cells st.counts.fields) where
+    module _ (t : b ≡ true) (g : Result (ℕ × ℕ) Fault) (cs : List ℕ) (short : length l ≤ most_value) (gq : shown g cs ≡ lay (line_of k (take (length l - (q + 1)) (drop (q + 1) l))) cells st.counts.fields) where
       value_so : step_of l st cells rows ≡ valued st k (shown g cs) rows
       unfolding step_of
       value_so = rw (at_q, lt-ltb q (length l) h, the_key, ← bq, t, gq, rest l (q + 1), short_line k (drop (q + 1) l) (rw length-drop (omega arith)))
 
-      pub bad_value : (x : Fault) → g ≡ line.Fault x → step_of l st cells rows ≡ bad x
-      bad_value x f = value_so ∙ ap (λ (y : Line). valued st k (shown y cs) rows) f
+      pub bad_value : (x : Fault) → g ≡ Err x → step_of l st cells rows ≡ bad x
+      bad_value x f = value_so ∙ ap (λ (y : Result (ℕ × ℕ) Fault). valued st k (shown y cs) rows) f
 
-      pub good_value : (i n : ℕ) (r : Step) (rs : List ℕ) → g ≡ line.Row i n → stepped r cs rs ≡ judged st k i n cs rows → step_of l st cells rows ≡ stepped r cs rs
-      good_value i n r rs f s = value_so ∙ ap (λ (y : Line). valued st k (shown y cs) rows) f ∙ sym s
+      pub good_value : (i n : ℕ) (r : Result State Fault) (rs : List ℕ) → g ≡ Ok (i, n) → stepped r cs rs ≡ judged st k i n cs rows → step_of l st cells rows ≡ stepped r cs rs
+      good_value i n r rs f s = value_so ∙ ap (λ (y : Result (ℕ × ℕ) Fault). valued st k (shown y cs) rows) f ∙ sym s
 
 -- the first row ahead, w, where it comes down to the rows from r on
 module _ (w t r : ℕ) (n : Counts) (cells rows : List ℕ) (inv : w ≡ first_ahead (t - r) r n cells rows) where
   more : r < t → t - r ≡ suc (t - (r + 1))
   more h = omega arith
 
-  pub ahead_here : (b : Bool) → r < t → b ≡ is_ahead r n cells rows → b ≡ true → w ≡ r
+  pub ahead_here : (b : Bool) → r < t → b ≡ is_ahead r n cells rows → b ≡ true → r ≡ w
   unfolding first_ahead
-  ahead_here b h p q = inv ∙ rw (more h, ← p, q)
+  ahead_here b h p q = sym (inv ∙ rw (more h, ← p, q))
 
   pub ahead_later : (b : Bool) → r < t → b ≡ is_ahead r n cells rows → b ≡ false → w ≡ first_ahead (t - (r + 1)) (r + 1) n cells rows
   unfolding first_ahead
   ahead_later b h p q = inv ∙ rw (more h, ← p, q)
 
-  pub none_ahead : t ≤ r → w ≡ r
+  pub none_ahead : t ≤ r → r ≤ t → t ≡ w
   unfolding first_ahead
-  none_ahead h = inv ∙ rw none
-    where
-      none : t - r ≡ 0
-      none = omega arith
+  none_ahead h l = let none : t - r ≡ 0 = omega arith in let same : r ≡ t = omega arith in sym (inv ∙ rw (none, same))
 
 -- what is judged behind the last line
 module _ (st : State) (l : ℕ) (cells rows : List ℕ) where
@@ -155,7 +143,7 @@ module _ (st : State) (l : ℕ) (cells rows : List ℕ) where
 
 -- a file: what is asked (w) comes down to the lines from p on
 module _ (w : Ended) (s : List ℕ) (p n : ℕ) (st : State) (cells rows : List ℕ) (inv : w ≡ lines_from (parts_from 10 p s) n st cells rows) where
-  pub at-end : p ≤ length s → length s ≤ p → (r : End) → ended r cells rows ≡ finish_of st n cells rows → w ≡ ended r cells rows
+  pub at-end : p ≤ length s → length s ≤ p → (r : Result Counts (Fault × ℕ)) → ended r cells rows ≡ finish_of st n cells rows → w ≡ ended r cells rows
   unfolding lines_from before
   at-end h l r f =
       inv
@@ -171,24 +159,14 @@ module _ (w : Ended) (s : List ℕ) (p n : ℕ) (st : State) (cells rows : List 
         inv
         ∙ rw (first_part 10 s p e (omega arith) q, no_part 10 s (e + 1) (omega arith), part_length s p e b, ne_eqb (e - p) 0 (λ z. omega (arith, z)))
 
-    module _ (l : e < length s) (r : Step) (cs rs : List ℕ) (g : stepped r cs rs ≡ step_of (take (e - p) (drop p s)) st cells rows) where
-      pub bad_line : (x : Fault) → r ≡ step.Bad x → w ≡ refused x n
+    module _ (l : e < length s) (r : Result State Fault) (cs rs : List ℕ) (g : stepped r cs rs ≡ step_of (take (e - p) (drop p s)) st cells rows) where
+      pub bad_line : (x : Fault) → r ≡ Err x → w ≡ refused x n
       unfolding lines_from
       bad_line x f = inv ∙ rw (first_part 10 s p e (omega arith) q, first_part 10 s (e + 1) (e + 1 + before 10 (drop (e + 1) s)) (omega arith) refl, ← g, f)
 
-      pub next_line : (x : State) → r ≡ step.Next x → w ≡ lines_from (parts_from 10 (e + 1) s) (n + 1) x cs rs
+      pub next_line : (x : State) → r ≡ Ok x → w ≡ lines_from (parts_from 10 (e + 1) s) (n + 1) x cs rs
       unfolding lines_from
       next_line x f = inv ∙ rw (first_part 10 s p e (omega arith) q, first_part 10 s (e + 1) (e + 1 + before 10 (drop (e + 1) s)) (omega arith) refl, ← g, f)
-
--- a table cleared up to i
-pub zero_more : (t d : List ℕ) (i : ℕ) → t ≡ replicate i 0 ++ drop i d → i < length d → set t i 0 ≡ replicate (i + 1) 0 ++ drop (i + 1) d
-zero_more t d i e h = ap (λ (l : List ℕ). set l i 0) e ∙ fill_more i 0 d h
-
-pub zero_all : (t d : List ℕ) (i : ℕ) → t ≡ replicate i 0 ++ drop i d → i ≤ length d → length d ≤ i → t ≡ zeros d
-zero_all t d i e h l = e ∙ rw (drop_of_length-le d l, append-nil, all)
-  where
-    all : i ≡ length d
-    all = omega arith
 
 -- a file and its tables
 module _ (s r c : List ℕ) where
@@ -206,13 +184,13 @@ module _ (s r c : List ℕ) where
       unfolding body_of
       short_cells l = rw (le-ltb 65536 (length s) h, le-ltb (length r) 9605 k, lt-ltb (length c) 94716 l)
 
-      module _ (l : 94716 ≤ length c) (e : End) (r₀ c₀ r₁ c₁ : List ℕ) (rz : r₀ ≡ zeros r) (cz : c₀ ≡ zeros c) (q : ended e c₁ r₁ ≡ lines_from (parts_from 10 0 s) 1 first c₀ r₀) where
+      module _ (l : 94716 ≤ length c) (e : Result Counts (Fault × ℕ)) (r₀ c₀ r₁ c₁ : List ℕ) (rz : r₀ ≡ zeros r) (cz : c₀ ≡ zeros c) (q : ended e c₁ r₁ ≡ lines_from (parts_from 10 0 s) 1 first c₀ r₀) where
         settled : body_of s r c ≡ settle (ended e c₁ r₁) r c
         unfolding body_of
         settled = rw (le-ltb 65536 (length s) h, le-ltb (length r) 9605 k, le-ltb (length c) 94716 l, ← cz, ← rz, q)
 
-        pub good_body : (n : Counts) → e ≡ end.Good n → body_of s r c ≡ held (answer.Body n) r₁ c₁
-        good_body n f = settled ∙ ap (λ (x : End). settle (ended x c₁ r₁) r c) f
+        pub good_body : (n : Counts) → e ≡ Ok n → body_of s r c ≡ held (answer.Body n) r₁ c₁
+        good_body n f = settled ∙ ap (λ (x : Result Counts (Fault × ℕ)). settle (ended x c₁ r₁) r c) f
 
-        pub bad_body : (x : Fault) (p : ℕ) (r₂ c₂ : List ℕ) → e ≡ end.Bad x p → r₂ ≡ zeros r → c₂ ≡ zeros c → body_of s r c ≡ held (answer.Refused x p) r₂ c₂
-        bad_body x p r₂ c₂ f a b = settled ∙ ap (λ (y : End). settle (ended y c₁ r₁) r c) f ∙ rw (a, b)
+        pub bad_body : (x : Fault) (p : ℕ) (r₂ c₂ : List ℕ) → e ≡ Err (x, p) → r₂ ≡ zeros r → c₂ ≡ zeros c → body_of s r c ≡ held (answer.Refused x p) r₂ c₂
+        bad_body x p r₂ c₂ f a b = settled ∙ ap (λ (y : Result Counts (Fault × ℕ)). settle (ended y c₁ r₁) r c) f ∙ rw (a, b)

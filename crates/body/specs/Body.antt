@@ -1,6 +1,6 @@
 -- A body file: its lines one after the other, each a step over a state and the two tables of a body.
 -- Assumes nothing.
-use Rattle.std.specs.Prelude.{ℕ, zero, suc, ◌+◌, ◌*◌, ◌-◌, List, [], ◌∷◌, Bool, true, false, cond, leb, ltb, eqb, length, take, drop, replicate}
+use Rattle.std.specs.Prelude.{ℕ, zero, suc, ◌+◌, ◌*◌, ◌-◌, List, [], ◌∷◌, Bool, true, false, cond, leb, ltb, eqb, length, take, drop, replicate, Err, Ok, Result}
 use Rattle.std.proofs.Math.Option.{Option, none, some}
 use Rattle.std.proofs.lemmas.List.Edits.{sets}
 use Rattle.lex.specs.Text.{parts_from, before}
@@ -10,10 +10,6 @@ use Rattle.forms.specs.Form.{key_type, key_def, key_inst, key_bind, key_node, ke
 use Rattle.refs.specs.declared.Counts.{Counts}
 use Rattle.refs.specs.Refs.{types_at, defs_at, insts_at, binds_at, nodes_at, fn_at, form_fun, form_inst, form_fn, form_bool, form_path, form_in, first_in, value_in, Linked, unlinked, linked, refs_from, is_repeated}
 use Rattle.body.specs.declared.State.{State}
-use Rattle.body.specs.declared.Step.{Step}
-use Rattle.body.specs.declared.Step.TheVariants as step
-use Rattle.body.specs.declared.End.{End}
-use Rattle.body.specs.declared.End.TheVariants as end
 use Rattle.body.specs.declared.Answer.{Answer}
 use Rattle.body.specs.declared.Answer.TheVariants as answer
 
@@ -214,15 +210,15 @@ body_of s rows cells =
     (settle (lines_from (parts_from 10 0 s) 1 first (zeros cells) (zeros rows)) rows cells)))
 
 -- what a step's answer says with the tables
-abbrev pub stepped : Step → List ℕ → List ℕ → Stepped
-stepped (step.Bad x) cells rows = bad x
-stepped (step.Next st) cells rows = next st cells rows
+abbrev pub stepped : Result State Fault → List ℕ → List ℕ → Stepped
+stepped (Err x) cells rows = bad x
+stepped (Ok st) cells rows = next st cells rows
 
-abbrev pub ended : End → List ℕ → List ℕ → Ended
-ended (end.Bad x l) cells rows = refused x l
-ended (end.Good n) cells rows = read n cells rows
+abbrev pub ended : Result Counts (Fault × ℕ) → List ℕ → List ℕ → Ended
+ended (Err (x, l)) cells rows = refused x l
+ended (Ok n) cells rows = read n cells rows
 
 -- how many fields there are behind a step
-abbrev pub fields_in : Step → ℕ
-fields_in (step.Bad x) = 0
-fields_in (step.Next st) = st.counts.fields
+abbrev pub fields_in : Result State Fault → ℕ
+fields_in (Err x) = 0
+fields_in (Ok st) = st.counts.fields

@@ -2,12 +2,12 @@
 // each field.
 #![tactic(auto)]
 
-ghost use Rattle.std.specs.Prelude.{◌≡◌, ◌+◌, ◌≤◌, ◌<◌, true, cond, length};
+ghost use Rattle.std.specs.Prelude.{◌≡◌, ◌+◌, ◌≤◌, ◌<◌, length};
 ghost use Rattle.lex.specs.Text.{parts_from};
-ghost use Rattle.body.specs.Body.{first, in_order, limit_of, count_of, base_of, counted as counted·T, levels_over, deeper as deeper·T, is_deep, advance as advance·T, put_row, repeats as repeats·T, judged, step_of, is_ahead, first_ahead, finish_of, lines_from, zeros, body_of, held, stepped, ended, fields_in};
+ghost use Rattle.body.specs.Body.{fault_number, first, in_order, limit_of, count_of, base_of, counted as counted·T, levels_over, deeper as deeper·T, is_deep, advance as advance·T, put_row, repeats as repeats·T, judged, step_of, is_ahead, first_ahead, finish_of, lines_from, body_of, held, stepped, ended, fields_in};
 
-use forms::{Fault, Line};
-use refs::{Counts, Refs};
+use forms::Fault;
+use refs::Counts;
 
 // The longest file.
 pub const MOST_BYTES: usize = 65536;
@@ -24,19 +24,7 @@ pub struct State {
     pub deep: bool,
 }
 
-#[derive(Clone, Copy)]
-pub enum Step {
-    Next(State),
-    Bad(Fault),
-}
-
-// What a file is: refused, with the line at fault, or a body.
-#[derive(Clone, Copy)]
-pub enum End {
-    Good(Counts),
-    Bad(Fault, usize),
-}
-
+// What a file is: a body, with how many rows of each key it has, or why it is none; a fault has its line.
 #[derive(Clone, Copy)]
 pub enum Answer {
     Body(Counts),
@@ -45,20 +33,28 @@ pub enum Answer {
     Refused(Fault, usize),
 }
 
+// Document 01's number of a fault.
+pub fn fault_number(f: Fault) -> usize
+    ensures { result ≡ fault_number f }
+{
+    match f {
+        Fault::Form => 3,
+        Fault::Limit => 4,
+        Fault::Reference => 5,
+        Fault::Levels => 6,
+    }
+}
+
 // The keys come in order, and nothing behind `fn`.
+#[tactic(auto, unfolding(crate::specs::Body::in_order))]
 fn in_order(was: u8, k: u8) -> bool
     ensures { result ≡ in_order was k }
 {
-    if k < was {
-        return false;
-    }
-    if was == forms::KEY_FN {
-        return false;
-    }
-    k <= forms::KEY_FN
+    was <= k && was != forms::KEY_FN && k <= forms::KEY_FN
 }
 
 // How many rows a key may have; `fn` comes once.
+#[tactic(auto, unfolding(crate::specs::Body::limit_of))]
 fn limit_of(k: u8) -> u16
     ensures { result ≡ limit_of k }
 {
@@ -73,6 +69,7 @@ fn limit_of(k: u8) -> u16
 }
 
 // How many it has.
+#[tactic(auto, unfolding(crate::specs::Body::count_of))]
 fn count_of(n: Counts, k: u8) -> u16
     ensures { result ≡ count_of n k }
 {
@@ -87,6 +84,7 @@ fn count_of(n: Counts, k: u8) -> u16
 }
 
 // Where its rows begin.
+#[tactic(auto, unfolding(crate::specs::Body::base_of))]
 fn base_of(k: u8) -> u32
     ensures value { result ≡ base_of k }
     ensures upper_bound { result ≤ 1920 }
@@ -102,6 +100,7 @@ fn base_of(k: u8) -> u32
 }
 
 // One row more of a key, with m fields.
+#[tactic(auto, unfolding(crate::specs::Body::counted, crate::specs::Body::count_of, crate::specs::Body::limit_of))]
 fn counted(n: Counts, k: u8, m: u16) -> Counts
     requires { (count_of n k < limit_of k) × (n.fields + m ≤ 65535) }
     ensures { result ≡ counted·T n k m }
@@ -110,92 +109,63 @@ fn counted(n: Counts, k: u8, m: u16) -> Counts
     match k {
         forms::KEY_TYPE => Counts {
             types: n.types + 1,
-            defs: n.defs,
-            insts: n.insts,
-            binds: n.binds,
-            nodes: n.nodes,
-            fields: fields,
+            fields,
+            ..n
         },
         forms::KEY_DEF => Counts {
-            types: n.types,
             defs: n.defs + 1,
-            insts: n.insts,
-            binds: n.binds,
-            nodes: n.nodes,
-            fields: fields,
+            fields,
+            ..n
         },
         forms::KEY_INST => Counts {
-            types: n.types,
-            defs: n.defs,
             insts: n.insts + 1,
-            binds: n.binds,
-            nodes: n.nodes,
-            fields: fields,
+            fields,
+            ..n
         },
         forms::KEY_BIND => Counts {
-            types: n.types,
-            defs: n.defs,
-            insts: n.insts,
             binds: n.binds + 1,
-            nodes: n.nodes,
-            fields: fields,
+            fields,
+            ..n
         },
         forms::KEY_NODE => Counts {
-            types: n.types,
-            defs: n.defs,
-            insts: n.insts,
-            binds: n.binds,
             nodes: n.nodes + 1,
-            fields: fields,
+            fields,
+            ..n
         },
-        _ => Counts {
-            types: n.types,
-            defs: n.defs,
-            insts: n.insts,
-            binds: n.binds,
-            nodes: n.nodes,
-            fields: fields,
-        },
+        _ => Counts { fields, ..n },
     }
 }
 
 // The levels of a line of the form f over parts of d levels: a function type and a node are a level of their own. 65 stands for all
 // above 64.
+#[tactic(auto, unfolding(crate::specs::Body::levels_over))]
 fn levels_of(f: u16, d: u16) -> u16
     ensures { result ≡ levels_over f d }
 {
-    if f == forms::FORM_FUN {
-        return deeper(d);
+    match f {
+        forms::FORM_FUN | forms::FORM_BOOL..=forms::FORM_PATH => deeper(d),
+        _ => d,
     }
-    if f < forms::FORM_BOOL {
-        return d;
-    }
-    if forms::FORM_PATH < f {
-        return d;
-    }
-    deeper(d)
 }
 
+// One level more.
+#[tactic(auto, unfolding(crate::specs::Body::deeper))]
 fn deeper(d: u16) -> u16
     ensures { result ≡ deeper·T d }
 {
-    if d < 65 {
-        return d + 1;
-    }
-    65
+    if d < 65 { d + 1 } else { 65 }
 }
 
 // More levels than a line of the key k may have.
+#[tactic(auto, unfolding(crate::specs::Body::is_deep))]
 fn is_deep(k: u8, d: u16) -> bool
     ensures { result ≡ is_deep k d }
 {
-    if k == forms::KEY_TYPE {
-        return 4 < d;
+    match k {
+        forms::KEY_TYPE => d > 4,
+        forms::KEY_NODE => d > 64,
+        _ => false,
     }
-    if k == forms::KEY_NODE {
-        return 64 < d;
-    }
-    false
 }
 
 // A line's row.
@@ -209,145 +179,109 @@ fn put_row(rows: &mut [u16], r: u32, form: u16, first: u16, count: u16, levels: 
 }
 
 // A type row that stands already.
+#[tactic(auto, unfolding(crate::specs::Body::repeats))]
 fn repeats(k: u8, f: u8, m: u16, n: Counts, cells: &[u16], rows: &[u16]) -> bool
     ensures { result ≡ repeats·T k f m n cells.now rows.now }
 {
-    if k == forms::KEY_TYPE {
-        let t = n.types;
-        let b = n.fields;
-        return refs::is_repeated(rows, cells, t, f as u16, b, m);
-    }
-    false
-}
-
-// Some line has too many levels: one before, or this one.
-fn stays_deep(was: bool, k: u8, d: u16) -> bool
-    ensures { result ≡ cond was true (is_deep k d) }
-{
-    if was {
-        return true;
-    }
-    is_deep(k, d)
+    k == forms::KEY_TYPE && refs::is_repeated(rows, cells, n.types, f as u16, n.fields, m)
 }
 
 // The state behind a line of the key k with m fields and d levels.
+#[tactic(auto, unfolding(crate::specs::Body::advance))]
 fn advance(st: State, k: u8, m: u16, d: u16) -> State
     requires { (count_of st.counts k < limit_of k) × (st.counts.fields + m ≤ 65535) }
     ensures { result ≡ advance·T st k m d }
 {
-    let n = st.counts;
-    let was = st.deep;
     State {
         key: k,
-        counts: counted(n, k, m),
-        deep: stays_deep(was, k, d),
+        counts: counted(st.counts, k, m),
+        deep: st.deep || is_deep(k, d),
     }
 }
 
 // A line of the form f with m fields: its count, its references, and its row.
-fn judge(st: State, k: u8, f: u8, m: u16, cells: &[u16], rows: &mut [u16]) -> Step
+fn judge(st: State, k: u8, f: u8, m: u16, cells: &[u16], rows: &mut [u16]) -> Result<State, Fault>
     requires { st.counts.fields + m ≤ 65535 }
     ensures within { fields_in result ≤ st.counts.fields + m }
     ensures rows_after { stepped result cells.now rows.new ≡ judged st k f m cells.now rows.old }
 {
     let n = st.counts;
     let j = count_of(n, k);
-    if j < limit_of(k) {
-        if repeats(k, f, m, n, cells, rows) {
-            return Step::Bad(Fault::Reference);
-        }
-        let at = n.fields;
-        match refs::link_fields(n, forms::form_at(f as usize), m, cells, rows) {
-            Refs::Levels(d) => {
-                let e = levels_of(f as u16, d);
-                put_row(rows, base_of(k) + j as u32, f as u16, at, m, e);
-                Step::Next(advance(st, k, m, e))
-            }
-            Refs::Bad => Step::Bad(Fault::Reference),
-        }
-    } else {
-        Step::Bad(Fault::Limit)
+    if j >= limit_of(k) {
+        return Err(Fault::Limit);
     }
+    if repeats(k, f, m, n, cells, rows) {
+        return Err(Fault::Reference);
+    }
+    let Some(d) = refs::link_fields(n, forms::form_at(f as usize), m, cells, rows) else {
+        return Err(Fault::Reference);
+    };
+    let levels = levels_of(f as u16, d);
+    put_row(rows, base_of(k) + j as u32, f as u16, n.fields, m, levels);
+    Ok(advance(st, k, m, levels))
 }
 
 // One line.
-fn step_line(l: &[u8], st: State, cells: &mut [u16], rows: &mut [u16]) -> Step
+fn step_line(l: &[u8], st: State, cells: &mut [u16], rows: &mut [u16]) -> Result<State, Fault>
     requires { st.counts.fields + length l.now ≤ 65535 }
     ensures within { fields_in result ≤ st.counts.fields + length l.now }
     ensures rows_after { stepped result cells.new rows.new ≡ step_of l.now st cells.old rows.old }
 {
-    let w = forms::read_key(l);
-    let q = w.end;
-    if l.len() <= q {
-        return Step::Bad(Fault::Form);
+    let key = forms::read_key(l);
+    if key.end >= l.len() {
+        return Err(Fault::Form);
     }
-    let k = w.number;
-    let was = st.key;
-    if in_order(was, k) {
-        let at = st.counts.fields;
-        match forms::read_line(k, &l[q + 1..], cells, at) {
-            Line::Row(f, m) => judge(st, k, f, m as u16, cells, rows),
-            Line::Fault(x) => Step::Bad(x),
-        }
-    } else {
-        Step::Bad(Fault::Form)
+    if !in_order(st.key, key.number) {
+        return Err(Fault::Form);
     }
+    let (f, m) = forms::read_line(key.number, &l[key.end + 1..], cells, st.counts.fields)?;
+    judge(st, key.number, f, m as u16, cells, rows)
 }
 
 // A type row whose K or D the body does not have.
+#[tactic(auto, unfolding(crate::specs::Body::is_ahead))]
 fn is_ahead(r: u32, n: Counts, cells: &[u16], rows: &[u16]) -> bool
     ensures { result ≡ is_ahead r n cells.now rows.now }
 {
-    let f = refs::form_of(rows, r);
     let x = refs::value_of(cells, refs::first_of(rows, r) as u32);
-    let i = n.insts;
-    let d = n.defs;
-    if f == forms::FORM_INST {
-        return i <= x;
+    match refs::form_of(rows, r) {
+        forms::FORM_INST => n.insts <= x,
+        forms::FORM_FN => n.defs <= x,
+        _ => false,
     }
-    if f == forms::FORM_FN {
-        return d <= x;
-    }
-    false
 }
 
 // The first of them, the number of types where there is none.
 fn first_ahead(n: Counts, cells: &[u16], rows: &[u16]) -> u16
     ensures { result ≡ first_ahead n.types 0 n cells.now rows.now }
 {
-    let t = n.types;
-    let mut r = 0;
-    while r < t {
+    for r in 0..n.types {
         if is_ahead(r as u32, n, cells, rows) {
             return r;
         }
-        r += 1;
     }
-    r
+    n.types
 }
 
 // What is judged behind the last line, which is before `line`: that `fn` was there, then K and D of types, then levels.
-fn finish(st: State, line: usize, cells: &[u16], rows: &[u16]) -> End
+fn finish(st: State, line: usize, cells: &[u16], rows: &[u16]) -> Result<Counts, (Fault, usize)>
     requires { 0 < line }
     ensures { ended result cells.now rows.now ≡ finish_of st line cells.now rows.now }
 {
-    let k = st.key;
-    let deep = st.deep;
-    let n = st.counts;
-    if k == forms::KEY_FN {
-        let t = n.types;
-        let r = first_ahead(n, cells, rows);
-        if r < t {
-            return End::Bad(Fault::Reference, r as usize + 1);
-        }
-        if deep {
-            return End::Bad(Fault::Levels, line - 1);
-        }
-        return End::Good(n);
+    if st.key != forms::KEY_FN {
+        return Err((Fault::Form, line));
     }
-    End::Bad(Fault::Form, line)
+    let r = first_ahead(st.counts, cells, rows);
+    if r < st.counts.types {
+        Err((Fault::Reference, r as usize + 1))
+    } else if st.deep {
+        Err((Fault::Levels, line - 1))
+    } else {
+        Ok(st.counts)
+    }
 }
 
+// Where the reading starts: no rows, and any key may come.
 fn start() -> State
     ensures { result ≡ first }
 {
@@ -366,7 +300,7 @@ fn start() -> State
 }
 
 // A whole file, line by line.
-fn lines(s: &[u8], cells: &mut [u16], rows: &mut [u16]) -> End
+fn lines(s: &[u8], cells: &mut [u16], rows: &mut [u16]) -> Result<Counts, (Fault, usize)>
     requires { length s.now ≤ 65536 }
     ensures { ended result cells.new rows.new ≡ lines_from (parts_from 10 0 s.now) 1 first cells.old rows.old }
 {
@@ -374,17 +308,13 @@ fn lines(s: &[u8], cells: &mut [u16], rows: &mut [u16]) -> End
     let mut line = 1;
     let mut st = start();
     while p < s.len() {
-        let e = lex::field_end(s, p, 10);
-        if s.len() <= e {
-            return End::Bad(Fault::Form, line);
+        let e = lex::field_end(s, p, b'\n');
+        if e >= s.len() {
+            return Err((Fault::Form, line));
         }
         match step_line(&s[p..e], st, cells, rows) {
-            Step::Next(x) => {
-                st = x;
-            }
-            Step::Bad(x) => {
-                return End::Bad(x, line);
-            }
+            Ok(next) => st = next,
+            Err(x) => return Err((x, line)),
         }
         line += 1;
         p = e + 1;
@@ -392,22 +322,12 @@ fn lines(s: &[u8], cells: &mut [u16], rows: &mut [u16]) -> End
     finish(st, line, cells, rows)
 }
 
-fn clear(t: &mut [u16])
-    ensures { t.new ≡ zeros t.old }
-{
-    let mut i = 0;
-    while i < t.len() {
-        t[i] = 0;
-        i += 1;
-    }
-}
-
 // Reads a file into the two tables: where it is too long or a table too short, the tables are as they were; on any other fault they
 // hold zeros alone, and on none the rows and the fields, with zeros behind them.
 pub fn read_body(s: &[u8], rows: &mut [u16], cells: &mut [u16]) -> Answer
     ensures { held result rows.new cells.new ≡ body_of s.now rows.old cells.old }
 {
-    if MOST_BYTES < s.len() {
+    if s.len() > MOST_BYTES {
         return Answer::TooLong;
     }
     if rows.len() < ROWS {
@@ -416,13 +336,13 @@ pub fn read_body(s: &[u8], rows: &mut [u16], cells: &mut [u16]) -> Answer
     if cells.len() < CELLS {
         return Answer::ShortTable;
     }
-    clear(rows);
-    clear(cells);
+    rows.fill(0);
+    cells.fill(0);
     match lines(s, cells, rows) {
-        End::Good(n) => Answer::Body(n),
-        End::Bad(x, l) => {
-            clear(rows);
-            clear(cells);
+        Ok(n) => Answer::Body(n),
+        Err((x, l)) => {
+            rows.fill(0);
+            cells.fill(0);
             Answer::Refused(x, l)
         }
     }

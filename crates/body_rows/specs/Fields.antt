@@ -1,14 +1,10 @@
 -- The text of a field by the way in which its kind is written: it reads back as the field's cell, and no other text does.
 -- Assumes nothing.
-use Rattle.std.specs.Prelude.{ℕ, zero, suc, ◌+◌, ◌<◌, ◌≤◌, ◌≡◌, refl, ◌⊎◌, List, [], ◌∷◌, ◌++◌, Bool, true, false, cond, leb, ltb, eqb, length, take, drop}
+use Rattle.std.specs.Prelude.{ℕ, zero, suc, ◌+◌, ◌<◌, ◌≤◌, ◌≡◌, refl, ◌⊎◌, List, [], ◌∷◌, ◌++◌, Bool, true, false, cond, leb, ltb, eqb, length, take, drop, None, Option, Some}
 use Prim.Native.Char.{code}
 use Rattle.std.proofs.Common.{arith, sym, ap, inl, inr, drop_of_length-le, ltb-true, ltb-false, eqb-true, ne_eqb}
-use Rattle.lex.specs.declared.Num.{Num}
-use Rattle.lex.specs.declared.Num.TheVariants as num
 use Rattle.lex.specs.Text.{before}
 use Rattle.forms.specs.declared.Cell.{Cell}
-use Rattle.forms.specs.declared.Read.{Read}
-use Rattle.forms.specs.declared.Read.TheVariants.{Is, Bad}
 use Rattle.forms.specs.Form.{cell, valued, named, letter_of, binary_of, unary_of, tag_of}
 use Rattle.output.specs.Output.{number_text}
 use Rattle.well_formed.specs.Parsed.{by_test, either}
@@ -62,21 +58,21 @@ digits_without [] d = tt
 digits_without (x ∷ s) d = (λ e. omega (arith, e, d.0.1), digits_without s d.1)
 
 -- a number with its tag
-pub valued_only : (b : ℕ) (m : Num) (x : Cell) → valued b m ≡ Is x → (n : ℕ) × (m ≡ num.Is n) × (cell 0 b n ≡ x)
-valued_only b (num.Is n) x e = (n, refl, cc)
-valued_only b num.Bad x e = let z : ◌≡◌ {A = ℕ} 0 1 = cc in absurd (omega arith)
+pub valued_only : (b : ℕ) (m : Option ℕ) (x : Cell) → valued b m ≡ Some x → (n : ℕ) × (m ≡ Some n) × (cell 0 b n ≡ x)
+valued_only b (Some n) x e = (n, refl, cc)
+valued_only b None x e = let z : ◌≡◌ {A = ℕ} 0 1 = cc in absurd (omega arith)
 
 -- a name with what stands behind it
-pub named_only : (m : Num) (r : Read) (x : Cell) → named m r ≡ Is x
-    → (a : ℕ) × (y : Cell) × (m ≡ num.Is a) × (r ≡ Is y) × (cell a y.tag y.value ≡ x)
-named_only (num.Is a) (Is y) x e = (a, y, refl, refl, cc)
-named_only (num.Is a) Bad x e = let z : ◌≡◌ {A = ℕ} 0 1 = cc in absurd (omega arith)
-named_only num.Bad r x e = let z : ◌≡◌ {A = ℕ} 0 1 = cc in absurd (omega arith)
+pub named_only : (m : Option ℕ) (r : Option Cell) (x : Cell) → named m r ≡ Some x
+    → (a : ℕ) × (y : Cell) × (m ≡ Some a) × (r ≡ Some y) × (cell a y.tag y.value ≡ x)
+named_only (Some a) (Some y) x e = (a, y, refl, refl, cc)
+named_only (Some a) None x e = let z : ◌≡◌ {A = ℕ} 0 1 = cc in absurd (omega arith)
+named_only None r x e = let z : ◌≡◌ {A = ℕ} 0 1 = cc in absurd (omega arith)
 
 -- ── written, then read ──
 
 -- an operator of `bin`
-pub binary_read : (v : ℕ) → v < 3 → binary_of (letter_of (binary_letter v ∷ [])) ≡ Is (cell 0 1 v)
+pub binary_read : (v : ℕ) → v < 3 → binary_of (letter_of (binary_letter v ∷ [])) ≡ Some (cell 0 1 v)
 unfolding binary_of letter_of binary_letter
 binary_read zero h = refl
 binary_read (suc zero) h = refl
@@ -84,7 +80,7 @@ binary_read (suc (suc zero)) h = refl
 binary_read (suc (suc (suc v))) h = absurd (omega arith)
 
 -- and of `un`
-pub unary_read : (v : ℕ) → v < 4 → unary_of (letter_of (unary_letter v ∷ [])) ≡ Is (cell 0 1 v)
+pub unary_read : (v : ℕ) → v < 4 → unary_of (letter_of (unary_letter v ∷ [])) ≡ Some (cell 0 1 v)
 unfolding unary_of letter_of unary_letter
 unary_read zero h = refl
 unary_read (suc zero) h = refl
@@ -114,15 +110,15 @@ no_way c x h w =
 -- ── read, then written ──
 
 -- a cell that s is the text of
-abbrev pub Spells : ℕ → List ℕ → Read → Type 0
-Spells c s r = (x : Cell) → r ≡ Is x → Writable c x × (field_text c x ≡ s)
+abbrev pub Spells : ℕ → List ℕ → Option Cell → Type 0
+Spells c s r = (x : Cell) → r ≡ Some x → Writable c x × (field_text c x ≡ s)
 
 -- what is not read is not the text of a cell
-pub bad_spells : (c : ℕ) (s : List ℕ) → Spells c s Bad
+pub bad_spells : (c : ℕ) (s : List ℕ) → Spells c s None
 bad_spells c s x e = let z : ◌≡◌ {A = ℕ} 0 1 = cc in absurd (omega arith)
 
 -- a cell that s is the text of, as it is
-pub is_spells : (c : ℕ) (s : List ℕ) (y : Cell) → Writable c y → field_text c y ≡ s → Spells c s (Is y)
+pub is_spells : (c : ℕ) (s : List ℕ) (y : Cell) → Writable c y → field_text c y ≡ s → Spells c s (Some y)
 is_spells c s y w t x e = let q : y ≡ x = cc in rw (← q) (w, t)
 
 -- an operator of `bin`

@@ -1,6 +1,6 @@
 -- The text of a line: its value is read as the form and the cells that it was written for, and no other value is.
 -- Assumes nothing.
-use Rattle.std.specs.Prelude.{ℕ, zero, suc, ◌+◌, ◌/◌, ◌<◌, ◌≤◌, ◌≡◌, refl, List, [], ◌∷◌, ◌++◌, Bool, true, false, cond, ltb, eqb, length, get_or, take, drop}
+use Rattle.std.specs.Prelude.{ℕ, zero, suc, ◌+◌, ◌/◌, ◌<◌, ◌≤◌, ◌≡◌, refl, List, [], ◌∷◌, ◌++◌, Bool, true, false, cond, ltb, eqb, length, get_or, take, drop, Err, None, Ok, Option, Some}
 use Rattle.std.proofs.Common.{arith, sym, ap, ◌∙◌, length-append, take_all, ltb-true, ltb-false, eqb-true, eq-eqb, ne_eqb, le-leb}
 use Rattle.std.proofs.lemmas.Bool.{false≢true, lt-leb}
 use Rattle.std.proofs.Math.Seq.{take-length, take-append_seam, drop-append-add}
@@ -8,9 +8,6 @@ use Rattle.lex.specs.Text.{before, split, parts_from, fields_from, text, same}
 use Rattle.lex.specs.Words.{same_eq, same_refl}
 use Rattle.forms.specs.declared.Form.{Form}
 use Rattle.forms.specs.declared.Cell.{Cell}
-use Rattle.forms.specs.declared.Read.{Read}
-use Rattle.forms.specs.declared.Read.TheVariants.{Is, Bad}
-use Rattle.forms.specs.declared.Line.TheVariants as line
 use Rattle.forms.specs.declared.Fault.TheVariants as fault
 use Rattle.forms.specs.Form.{key_type, key_def, key_inst, key_bind, key_node, key_fn, no_key, key_of, LineForm, forms, no_form, worded, fits, index_of, form_of, kind_at, Cells, refused, cells, prepend, parsed, start_of, count_of, with_cells, counted}
 use Rattle.forms.specs.Words.{both, form_fits, words_apart}
@@ -175,11 +172,11 @@ texts_without f i [] = tt
 texts_without f i (x ∷ l) = (over_without 44 44 (field_text (kind_at f i / 16) x) (omega arith) (field_over (kind_at f i / 16) x), texts_without f (i + 1) l)
 
 -- a cell before others, where all were read
-pub prepend_only : (r : Read) (q : Cells) (l : List Cell) → prepend r q ≡ cells l
-    → (x : Cell) × (t : List Cell) × (r ≡ Is x) × (q ≡ cells t) × (x ∷ t ≡ l)
-prepend_only Bad q l e = let z : ◌≡◌ {A = ℕ} 0 1 = cc in absurd (omega arith)
-prepend_only (Is x) (refused l') l e = let z : ◌≡◌ {A = ℕ} 0 1 = cc in absurd (omega arith)
-prepend_only (Is x) (cells t) l e = (x, t, refl, refl, cc)
+pub prepend_only : (r : Option Cell) (q : Cells) (l : List Cell) → prepend r q ≡ cells l
+    → (x : Cell) × (t : List Cell) × (r ≡ Some x) × (q ≡ cells t) × (x ∷ t ≡ l)
+prepend_only None q l e = let z : ◌≡◌ {A = ℕ} 0 1 = cc in absurd (omega arith)
+prepend_only (Some x) (refused l') l e = let z : ◌≡◌ {A = ℕ} 0 1 = cc in absurd (omega arith)
+prepend_only (Some x) (cells t) l e = (x, t, refl, refl, cc)
 
 -- ── a value ──
 
@@ -212,7 +209,7 @@ unfolding count_of
 counted_only i g (refused l') f l e = let z : ◌≡◌ {A = ℕ} 0 1 = cc in absurd (omega arith)
 counted_only i g (cells t) f l e = by (ltb (length t) g.4) (ltb g.5 (length t)) e
   where
-    by : (a b : Bool) → with_cells (cond a (line.Fault fault.Form) (cond b (line.Fault fault.Limit) (line.Row i (length t)))) t ≡ parsed f l → (cells t ≡ cells l) × (i ≡ f)
+    by : (a b : Bool) → with_cells (cond a (Err fault.Form) (cond b (Err fault.Limit) (Ok (i, (length t))))) t ≡ parsed f l → (cells t ≡ cells l) × (i ≡ f)
     by true b e = let z : ◌≡◌ {A = ℕ} 0 1 = cc in absurd (omega arith)
     by false true e = let z : ◌≡◌ {A = ℕ} 0 1 = cc in absurd (omega arith)
     by false false e = let q : t ≡ l = cc in (ap cells q, cc)

@@ -1,37 +1,25 @@
 -- What each return and turn of a function that writes a line shows, over plain variables. Assumes nothing.
+use Rattle.std.specs.Prelude.{Option}
 use native.Mathlib.Omega.{arith}
 use mathlib.Core.Path.{◌≡◌, refl, sym, ap, subst, ◌∙◌}
 use mathlib.Core.List.{List, [], ◌∷◌, ◌++◌, append_assoc}
 use mathlib.Core.Bool.{Bool, true, false}
-use Prim.Native.Nat.{ℕ, suc, ◌+◌, ◌-◌, ◌/◌, ◌≤◌, ◌<◌}
+use Prim.Native.Nat.{ℕ, suc, ◌+◌, ◌-◌, ◌/◌, ◌≤◌}
 use lib.Dec.{ltb}
 use lib.ListN.{get_or, get_or-eq_default}
-use borrow.Author.Tests.{ne_eqb, lt-leb, ltb-true, ltb-false}
+use borrow.Author.Tests.{ltb-true, ltb-false}
 use Rattle.lex.specs.Text.{text}
 use Rattle.forms.specs.declared.Form.{Form}
 use Rattle.forms.specs.Form.{cell, kind_at, form_at, forms, no_form}
 use Rattle.refs.specs.declared.Counts.{Counts}
 use Rattle.refs.specs.Refs.{nodes_at, fn_at, name_in, tag_in, value_in, form_in, first_in, count_in}
-use Rattle.output.specs.declared.Ending.{Ending}
 use Rattle.table_cells.specs.Rows.{cells_to}
 use Rattle.output.specs.Output.{Appends, Finishes, output, ended, newline}
 use Rattle.output.specs.Appending.{append_none, then, appends_as, whole}
-use Rattle.body_rows.specs.Text.{tag_letter, resolution_text, field_text, row, key_at, word_at, key_text, line_text, cells_at, row_at, file_text_in}
+use Rattle.body_rows.specs.Text.{field_text, row, key_at, word_at, key_text, line_text, cells_at, row_at, file_text_in}
 use Rattle.body_write.specs.Writing.{field_text_at, behind_comma, bare_fields, is_worded, head_text, values_text, row_line, row_lines, declaration_lines, body_lines, line_parts, text_lines}
 
 -- ── fields ──
-
--- what is no other tag is o
-pub res_other : (t v : ℕ) → ((((((Unit {0} × (t ≡ 0 → ⊥)) × (t ≡ 1 → ⊥)) × (t ≡ 2 → ⊥)) × (t ≡ 3 → ⊥)) × (t ≡ 4 → ⊥)) × (t ≡ 5 → ⊥)) → 111 ∷ [] ≡ resolution_text t v
-unfolding resolution_text tag_letter
-res_other t v n =
-    rw (ne_eqb t 1 n.0.0.0.0.1, ne_eqb t 2 n.0.0.0.1, ne_eqb t 3 n.0.0.1, ne_eqb t 4 n.0.1, ne_eqb t 5 n.1, lt-leb t 4 (omega (arith, n.0.0.0.0.0.1, n.0.0.0.0.1, n.0.0.0.1, n.0.0.1, n.0.1)))
-
--- what is no other way has no text
-pub way_other : (w a t v : ℕ) → (((((((Unit {0} × (w ≡ 1 → ⊥)) × (w ≡ 2 → ⊥)) × (w ≡ 3 → ⊥)) × (w ≡ 4 → ⊥)) × (w ≡ 5 → ⊥)) × (w ≡ 6 → ⊥)) × (w ≡ 7 → ⊥)) → [] ≡ field_text w (cell a t v)
-unfolding field_text
-way_other w a t v n =
-    rw (ne_eqb w 1 n.0.0.0.0.0.0.1, ne_eqb w 2 n.0.0.0.0.0.1, ne_eqb w 3 n.0.0.0.0.1, ne_eqb w 4 n.0.0.0.1, ne_eqb w 5 n.0.0.1, ne_eqb w 6 n.0.1, ne_eqb w 7 n.1)
 
 -- a name, a colon and what stands behind them
 pub pair_as : {c d e : ℕ} {x y z : List ℕ} (u v : List ℕ) → Appends (u ++ (58 ∷ [])) c x d y → Appends v d y e z → Appends (u ++ 58 ∷ v) c x e z
@@ -44,10 +32,6 @@ unfolding field_text_at
 cell_as f cells j h k w a t v p q r s u g = rw (← p, ← q, ← r, ← s, ← u) g
 
 -- ── the head of a line ──
-
--- a number that is not less and not the same is greater
-pub next : {k i : ℕ} → k ≤ i → (i ≡ k → ⊥) → suc k ≤ i
-next h n = omega (arith, h, n)
 
 -- what is past the forms with a word, or with another key, is `fn`
 pub head_other : (f : ℕ) → 29 ≤ f → text "fn=" ≡ head_text f
@@ -88,11 +72,7 @@ unfolding row_line row_at
 at_as rows cells p f j m u v w a = rw (← u, ← v, ← w) a
 
 -- the whole text
-pub body_as : {c d e : ℕ} {x y z : List ℕ} {u : List ℕ} {r : Ending} (n : Counts) (rows cells : List ℕ) → Appends (declaration_lines n rows cells) 0 x c y → Appends (row_lines rows cells nodes_at n.nodes) c y d z
+pub body_as : {c d e : ℕ} {x y z : List ℕ} {u : List ℕ} {r : Option ℕ} (n : Counts) (rows cells : List ℕ) → Appends (declaration_lines n rows cells) 0 x c y → Appends (row_lines rows cells nodes_at n.nodes) c y d z
     → Appends (row_line rows cells fn_at) d z e u → {v : List ℕ} → Finishes e u r v → output r v ≡ ended (file_text_in n rows cells) x
 unfolding body_lines
 body_as {x = x} n rows cells p q r f = whole (then (then p q) r) f ∙ ap (λ (t : List ℕ). ended t x) (text_lines n rows cells)
-
--- a number that is not less and below the next is this one
-pub last_one : (k f : ℕ) → k ≤ f → f < suc k → f ≡ k
-last_one k f h l = omega (arith, h, l)

@@ -1,6 +1,6 @@
 -- The text of a row as the code writes it, and that this is the row's line.
 -- Assumes nothing.
-use Rattle.std.specs.Prelude.{ℕ, zero, suc, ◌+◌, ◌-◌, ◌/◌, ◌<◌, ◌≤◌, ◌≡◌, List, [], ◌∷◌, ◌++◌, Bool, true, false, cond, ltb, eqb}
+use Rattle.std.specs.Prelude.{ℕ, zero, suc, ◌+◌, ◌/◌, ◌≤◌, ◌≡◌, List, [], ◌∷◌, ◌++◌, Bool, true, false, cond, ltb, eqb}
 use Prim.Native.Char.{code}
 use Rattle.std.proofs.Common.{zero-add, arith, sym, ap, ◌∙◌, append_assoc, append-nil, ltb-true, ltb-false, le-ltb}
 use Rattle.std.proofs.Math.Path.{refl}

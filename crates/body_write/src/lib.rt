@@ -1,7 +1,7 @@
 // The text of a body's tables into a lent output: `put_row` writes the line of one row by the table of forms, `write_body` a whole body.
 #![tactic(auto)]
 
-ghost use Rattle.std.specs.Prelude.{◌≡◌, ◌++◌, ◌∷◌, [], ◌+◌, ◌≤◌, ◌<◌};
+ghost use Rattle.std.specs.Prelude.{◌≡◌, ◌++◌, ◌∷◌, [], ◌+◌, ◌≤◌};
 ghost use Rattle.forms.specs.Form.{cell as cell·T};
 ghost use Rattle.refs.specs.Refs.{fn_at};
 ghost use Rattle.table_cells.specs.Rows.{cells_to};
@@ -10,51 +10,49 @@ ghost use Rattle.body_rows.specs.Text.{binary_letter, unary_letter, resolution_t
 ghost use Rattle.body_write.specs.Writing.{optional_text, is_worded, head_text, field_text_at, behind_comma, values_text, row_line, row_lines, declaration_lines};
 
 use forms::Form;
-use output::Ending;
 use refs::Counts;
 
 // ── a field ──
 
 // The letter of an operator of `bin`.
+#[tactic(auto, unfolding(body_rows::specs::Text::binary_letter))]
 fn binary_letter(v: u16) -> u8
     ensures { result ≡ binary_letter v }
 {
-    if v == 0 {
-        return b'b';
+    match v {
+        0 => b'b',
+        1 => b'c',
+        _ => b'a',
     }
-    if v == 1 {
-        return b'c';
-    }
-    b'a'
 }
 
 // And of `un`.
+#[tactic(auto, unfolding(body_rows::specs::Text::unary_letter))]
 fn unary_letter(v: u16) -> u8
     ensures { result ≡ unary_letter v }
 {
-    if v == 0 {
-        return b'd';
+    match v {
+        0 => b'd',
+        1 => b'r',
+        2 => b'n',
+        _ => b't',
     }
-    if v == 1 {
-        return b'r';
-    }
-    if v == 2 {
-        return b'n';
-    }
-    b't'
 }
 
 // A number, or `-`.
+#[tactic(auto, unfolding(crate::specs::Writing::optional_text))]
 fn put_option(out: &mut [u8], c: usize, tag: u16, v: u16) -> usize
     ensures { Appends (optional_text tag v) c out.old result out.new }
 {
     if tag == 0 {
-        return output::put(out, c, b'-');
+        output::put(out, c, b'-')
+    } else {
+        output::put_number(out, c, v as usize)
     }
-    output::put_number(out, c, v as usize)
 }
 
 // RES.
+#[tactic(auto, unfolding(body_rows::specs::Text::resolution_text, body_rows::specs::Text::tag_letter))]
 fn put_res(out: &mut [u8], c: usize, tag: u16, v: u16) -> usize
     ensures { Appends (resolution_text tag v) c out.old result out.new }
 {
@@ -94,6 +92,7 @@ fn put_segment(out: &mut [u8], c: usize, a: u16, tag: u16, v: u16) -> usize
 }
 
 // A field, by the way in which it is written.
+#[tactic(auto, unfolding(body_rows::specs::Text::field_text, crate::specs::Writing::optional_text))]
 fn put_way(out: &mut [u8], c: usize, w: u8, a: u16, tag: u16, v: u16) -> usize
     ensures { Appends (field_text w (cell·T a tag v)) c out.old result out.new }
 {
@@ -135,10 +134,8 @@ fn put_more(out: &mut [u8], c: usize, f: Form, cells: &[u16], j: u16, a: u16, n:
     ensures { Appends (cells_to (behind_comma f cells.now j a) n) c out.old result out.new }
 {
     let mut d = c;
-    let mut i: u16 = 0;
-    while i < n {
+    for i in 0..n {
         d = put_next(out, d, f, cells, j, a, i);
-        i += 1;
     }
     d
 }
@@ -146,81 +143,40 @@ fn put_more(out: &mut [u8], c: usize, f: Form, cells: &[u16], j: u16, a: u16, n:
 // ── a line ──
 
 // Whether a form has a word.
+#[tactic(auto, unfolding(crate::specs::Writing::is_worded))]
 fn worded(f: u16) -> bool
     ensures { result ≡ is_worded f }
 {
-    if f < 4 {
-        return true;
-    }
-    if f < 7 {
-        return false;
-    }
-    f < 29
+    matches!(f, 0..=3 | 7..=28)
 }
 
-// The key of a form, the equals sign, and its word: of a type,
-fn put_type_head(out: &mut [u8], c: usize, f: u16) -> usize
-    requires { (0 ≤ f) × (f < 4) }
+// The key of a form, the equals sign, and its word.
+#[tactic(auto, unfolding(forms::specs::Form::forms, crate::specs::Writing::head_text, body_rows::specs::Text::key_at, body_rows::specs::Text::key_text, body_rows::specs::Text::word_at))]
+fn put_head(out: &mut [u8], c: usize, f: u16) -> usize
     ensures { Appends (head_text f) c out.old result out.new }
 {
     match f {
         0 => output::put_all(out, c, b"type=array"),
         1 => output::put_all(out, c, b"type=fun"),
         2 => output::put_all(out, c, b"type=inst"),
-        _ => output::put_all(out, c, b"type=fn"),
-    }
-}
-
-// of `def`, `inst` and `bind`,
-fn put_declared_head(out: &mut [u8], c: usize, f: u16) -> usize
-    requires { (4 ≤ f) × (f < 7) }
-    ensures { Appends (head_text f) c out.old result out.new }
-{
-    match f {
+        3 => output::put_all(out, c, b"type=fn"),
         4 => output::put_all(out, c, b"def="),
         5 => output::put_all(out, c, b"inst="),
-        _ => output::put_all(out, c, b"bind="),
-    }
-}
-
-// of the first nodes,
-fn put_first_head(out: &mut [u8], c: usize, f: u16) -> usize
-    requires { (7 ≤ f) × (f < 14) }
-    ensures { Appends (head_text f) c out.old result out.new }
-{
-    match f {
+        6 => output::put_all(out, c, b"bind="),
         7 => output::put_all(out, c, b"node=bool"),
         8 => output::put_all(out, c, b"node=int"),
         9 => output::put_all(out, c, b"node=float"),
         10 => output::put_all(out, c, b"node=str"),
         11 => output::put_all(out, c, b"node=bin"),
         12 => output::put_all(out, c, b"node=un"),
-        _ => output::put_all(out, c, b"node=field"),
-    }
-}
-
-// of those behind them,
-fn put_middle_head(out: &mut [u8], c: usize, f: u16) -> usize
-    requires { (14 ≤ f) × (f < 21) }
-    ensures { Appends (head_text f) c out.old result out.new }
-{
-    match f {
+        13 => output::put_all(out, c, b"node=field"),
         14 => output::put_all(out, c, b"node=list"),
         15 => output::put_all(out, c, b"node=index"),
         16 => output::put_all(out, c, b"node=assign"),
         17 => output::put_all(out, c, b"node=opassign"),
         18 => output::put_all(out, c, b"node=if"),
         19 => output::put_all(out, c, b"node=loop"),
-        _ => output::put_all(out, c, b"node=break"),
-    }
-}
-
-// and of the last.
-fn put_last_head(out: &mut [u8], c: usize, f: u16) -> usize
-    requires { (21 ≤ f) × (f < 29) }
-    ensures { Appends (head_text f) c out.old result out.new }
-{
-    match f {
+        20 => output::put_all(out, c, b"node=break"),
         21 => output::put_all(out, c, b"node=call"),
         22 => output::put_all(out, c, b"node=mcall"),
         23 => output::put_all(out, c, b"node=return"),
@@ -228,30 +184,9 @@ fn put_last_head(out: &mut [u8], c: usize, f: u16) -> usize
         25 => output::put_all(out, c, b"node=let"),
         26 => output::put_all(out, c, b"node=param"),
         27 => output::put_all(out, c, b"node=lambda"),
-        _ => output::put_all(out, c, b"node=path"),
+        28 => output::put_all(out, c, b"node=path"),
+        _ => output::put_all(out, c, b"fn="),
     }
-}
-
-// Those of any form.
-fn put_head(out: &mut [u8], c: usize, f: u16) -> usize
-    ensures { Appends (head_text f) c out.old result out.new }
-{
-    if f < 4 {
-        return put_type_head(out, c, f);
-    }
-    if f < 7 {
-        return put_declared_head(out, c, f);
-    }
-    if f < 14 {
-        return put_first_head(out, c, f);
-    }
-    if f < 21 {
-        return put_middle_head(out, c, f);
-    }
-    if f < 29 {
-        return put_last_head(out, c, f);
-    }
-    output::put_all(out, c, b"fn=")
 }
 
 // The fields of a row: behind a word each behind a comma, else with commas between them.
@@ -260,13 +195,13 @@ fn put_values(out: &mut [u8], c: usize, f: u16, cells: &[u16], j: u16, m: u16) -
 {
     let g = forms::form_at(f as usize);
     if worded(f) {
-        return put_more(out, c, g, cells, j, 0, m);
+        put_more(out, c, g, cells, j, 0, m)
+    } else if m == 0 {
+        c
+    } else {
+        let d = put_cell(out, c, g, cells, j, 0, 0);
+        put_more(out, d, g, cells, j, 1, m - 1)
     }
-    if m == 0 {
-        return c;
-    }
-    let d = put_cell(out, c, g, cells, j, 0, 0);
-    put_more(out, d, g, cells, j, 1, m - 1)
 }
 
 // The line of a row: of the form f, with m fields from j on.
@@ -296,10 +231,8 @@ fn put_rows(out: &mut [u8], c: usize, rows: &[u16], cells: &[u16], p: u32, n: u1
     ensures { Appends (row_lines rows.now cells.now p n) c out.old result out.new }
 {
     let mut d = c;
-    let mut i: u16 = 0;
-    while i < n {
+    for i in 0..n {
         d = put_at(out, d, rows, cells, p + i as u32);
-        i += 1;
     }
     d
 }
@@ -308,23 +241,18 @@ fn put_rows(out: &mut [u8], c: usize, rows: &[u16], cells: &[u16], p: u32, n: u1
 fn put_declarations(out: &mut [u8], rows: &[u16], cells: &[u16], n: Counts) -> usize
     ensures { Appends (declaration_lines n rows.now cells.now) 0 out.old result out.new }
 {
-    let t = n.types;
-    let d = n.defs;
-    let k = n.insts;
-    let b = n.binds;
-    let c0 = put_rows(out, 0, rows, cells, refs::TYPES_AT, t);
-    let c1 = put_rows(out, c0, rows, cells, refs::DEFS_AT, d);
-    let c2 = put_rows(out, c1, rows, cells, refs::INSTS_AT, k);
-    put_rows(out, c2, rows, cells, refs::BINDS_AT, b)
+    let c0 = put_rows(out, 0, rows, cells, refs::TYPES_AT, n.types);
+    let c1 = put_rows(out, c0, rows, cells, refs::DEFS_AT, n.defs);
+    let c2 = put_rows(out, c1, rows, cells, refs::INSTS_AT, n.insts);
+    put_rows(out, c2, rows, cells, refs::BINDS_AT, n.binds)
 }
 
-// The text of a body's tables into an output of any length: where it ends; without room for it the output is zero throughout.
-pub fn write_body(out: &mut [u8], rows: &[u16], cells: &[u16], n: Counts) -> Ending
+// The text of a body's tables into an output of any length: where it ends; None without room for it, and the output is zero throughout.
+pub fn write_body(out: &mut [u8], rows: &[u16], cells: &[u16], n: Counts) -> Option<usize>
     ensures { output·T result out.new ≡ ended (file_text_in n rows.now cells.now) out.old }
 {
     let c = put_declarations(out, rows, cells, n);
-    let m = n.nodes;
-    let d = put_rows(out, c, rows, cells, refs::NODES_AT, m);
+    let d = put_rows(out, c, rows, cells, refs::NODES_AT, n.nodes);
     let e = put_at(out, d, rows, cells, refs::FN_AT);
     output::finish(out, e)
 }

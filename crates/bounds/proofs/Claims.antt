@@ -4,7 +4,7 @@
 -- last, that no default of the definitions is met.
 -- The body is what `type_body` of crate `resolve` says, over the tables that `read_body` leaves on 0 (`WellFormed` of crate `well_formed`), from the
 -- fixed types and no node typed; `Fits` of crate `record` says that no table of a state is over its limit.
-use Rattle.std.specs.Prelude.{◌≡◌, ◌↔◌, List, [], ◌∷◌, ◌++◌, true, ℕ, ◌+◌, ◌*◌, ◌<◌, ◌≤◌, length, drop}
+use Rattle.std.specs.Prelude.{◌≡◌, ◌↔◌, List, [], ◌∷◌, ◌++◌, true, ℕ, ◌+◌, ◌*◌, ◌<◌, ◌≤◌, length, drop, Result}
 use Rattle.std.proofs.Math.Path.{refl}
 use Rattle.std.proofs.Math.Option.{none, some}
 use Rattle.std.proofs.Common.{arith, lt-ltb}
@@ -19,7 +19,6 @@ use Rattle.type_table.specs.Memory.{tab}
 use Rattle.type_table.specs.Sound.{fixed_types}
 use Rattle.refs.specs.declared.Counts.{Counts}
 use Rattle.nodes.specs.Nodes.{fn_line}
-use Rattle.record.specs.declared.Ruled.{Ruled}
 use Rattle.record.specs.Own.{log_at, blank}
 use Rattle.record.specs.Steps.{fn_def_lem, instance}
 use Rattle.record.specs.Encodes.{input_total, Fits}
@@ -55,6 +54,8 @@ use Rattle.bounds.proofs.NeverMet.{never_met, body_origins}
 use Rattle.bounds.specs.Nesting.{AtEquations, line_row, four_deep}
 use Rattle.bounds.proofs.Nesting.{body_rows_lem, body_equations}
 use Rattle.bounds.specs.Claims.{after, before}
+use Rattle.record.specs.declared.Record.{Record}
+use Rattle.record.specs.declared.Refusal.{Refusal}
 
 module _ (n : Counts) (rows cells : List ℕ) (w : WellFormed n rows cells) (o : ℕ) where
   -- the tables behind a body are those before it, and what its types and nodes allow
@@ -208,7 +209,7 @@ module _ (n : Counts) (rows cells : List ℕ) (w : WellFormed n rows cells) wher
 -- ── 8. the promise of `type_body`, its answer, and demand 3 ──
 
 -- of a body that was read, in a memory of at least 80,802 cells: the answer is that of the rules, and the memory holds the state in which the body ends
-pub typed_in_memory : (n : Counts) (rows cells : List ℕ) → WellFormed n rows cells → (m m' : List ℕ) (r : Ruled) → log_at ≤ length m → BodyTyped m m' r n rows cells → TypedBy m' r n rows cells
+pub typed_in_memory : (n : Counts) (rows cells : List ℕ) → WellFormed n rows cells → (m m' : List ℕ) (r : Result Record Refusal) → log_at ≤ length m → BodyTyped m m' r n rows cells → TypedBy m' r n rows cells
 typed_in_memory n rows cells w m m' r large t = t.by large (never_full n rows cells w (fn_line rows cells).output.0)
 
 module _ (n : Counts) (rows cells : List ℕ) where

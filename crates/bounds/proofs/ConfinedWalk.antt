@@ -6,7 +6,6 @@ use Rattle.std.proofs.Math.Option.{none}
 use Rattle.std.proofs.Common.{arith}
 use Rattle.theory.specs.Rules.{integer, floating}
 use Rattle.refs.specs.declared.Counts.{Counts}
-use Rattle.nodes.specs.declared.Block.{Block}
 use Rattle.nodes.specs.declared.Node.{Node}
 use Rattle.nodes.specs.declared.Node.TheVariants as form
 use Rattle.nodes.specs.Nodes.{Body, node_at, block_at, fn_line}

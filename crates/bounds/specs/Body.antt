@@ -1,5 +1,5 @@
 -- What a whole well-formed body adds to the tables: its declared types, the walk, the equation of its result, its final types. Assumes nothing.
-use Rattle.std.specs.Prelude.{◌≡◌, List, ℕ, ◌+◌, ◌*◌, ◌<◌, ◌≤◌, eqb, length}
+use Rattle.std.specs.Prelude.{◌≡◌, List, ℕ, ◌+◌, ◌*◌, ◌<◌, ◌≤◌, eqb, length, None, Option as Option·R, Some}
 use Rattle.std.proofs.Math.Option.{Option, none, some}
 use Rattle.std.proofs.Common.{arith, rules, eqb-true}
 use Rattle.theory.specs.Rules.{Shape, Kind, regular, integer, floating, as_var}
@@ -8,8 +8,6 @@ use Rattle.type_table.specs.Memory.{pick}
 use Rattle.forms.specs.Form.{forms, form_at}
 use Rattle.refs.specs.declared.Counts.{Counts}
 use Rattle.refs.specs.Refs.{form_in, count_in}
-use Rattle.nodes.specs.declared.MaybeType.{MaybeType}
-use Rattle.nodes.specs.declared.MaybeType.TheVariants as type
 use Rattle.nodes.specs.declared.Items.{Items}
 use Rattle.nodes.specs.declared.TypeRow.{TypeRow}
 use Rattle.nodes.specs.declared.TypeRow.TheVariants as line
@@ -26,6 +24,7 @@ use Rattle.bounds.specs.Calls.{numbers_length}
 use Rattle.bounds.specs.Visits.{child}
 use Rattle.bounds.specs.Walk.{expr_adds}
 use Rattle.bounds.specs.Declared.{behind_types}
+use Rattle.type_table.specs.declared.TypeId.{TypeId}
 
 -- ── declared types ──
 
@@ -65,9 +64,9 @@ module _ (n : Counts) (rows cells : List ℕ) (w : WellFormed n rows cells) wher
   -- ── the function ──
 
   -- a declared type
-  param_type_adds : (p : ℕ) (t : MaybeType) → Adds nothing (param_type_lem p t)
-  param_type_adds p (type.Of t) = set_node_type_adds p t.0
-  param_type_adds p type.Absent = done_adds tt
+  param_type_adds : (p : ℕ) (t : Option·R TypeId) → Adds nothing (param_type_lem p t)
+  param_type_adds p (Some t) = set_node_type_adds p t.0
+  param_type_adds p None = done_adds tt
 
   -- each P of `fn`
   pub params_adds : (t : Items) → Adds nothing (params rows cells t)

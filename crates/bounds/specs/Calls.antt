@@ -1,13 +1,9 @@
 -- What each rule of a path, a field, a callee, an argument, a method and a lambda adds to the tables. Assumes nothing.
-use Rattle.std.specs.Prelude.{◌≡◌, refl, List, Bool, true, false, cond, ℕ, suc, zero, ◌-◌, length, eqb, ltb}
+use Rattle.std.specs.Prelude.{◌≡◌, refl, List, Bool, true, false, cond, ℕ, suc, zero, ◌-◌, length, eqb, ltb, None, Option as Option·R, Some}
 use Rattle.std.proofs.Common.{ap, rules}
 use Rattle.std.proofs.Math.Option.{Option, none, some}
 use Rattle.theory.specs.Rules.{Shape, base, var, arr, ref, fn, fun, lam, err, div, regular, head, error_head}
 use Rattle.theory.specs.Program.{run, done, ◌>>=◌}
-use Rattle.nodes.specs.declared.MaybeType.{MaybeType}
-use Rattle.nodes.specs.declared.MaybeType.TheVariants as type
-use Rattle.nodes.specs.declared.MaybeDef.{MaybeDef}
-use Rattle.nodes.specs.declared.MaybeDef.TheVariants as def
 use Rattle.nodes.specs.declared.Items.{Items}
 use Rattle.nodes.specs.declared.Res.{Res}
 use Rattle.nodes.specs.declared.Res.TheVariants as res
@@ -22,6 +18,8 @@ use Rattle.rules.specs.Rules as rule
 use Rattle.bounds.specs.Adds.{Cost, cost, nothing, Adds, AddsBy, larger_within, kept_same, same_larger, emitted_larger, written_larger, adds_within, adds_any, then, nothing_then, then_nothing}
 use Rattle.bounds.specs.Steps.{one_var, one_row, one_error, one_equation_lem, times, done_adds, refuse_adds, cond_adds, set_node_type_adds, set_extra_adds, node_type_adds, shape_of_adds, all_types_adds, new_infer_var_adds, fn_def_adds, instance_adds, make_lambda_adds, error_adds, each_same}
 use Rattle.bounds.specs.Rules.{equate_on_adds, error_then}
+use Rattle.type_table.specs.declared.DefId.{DefId}
+use Rattle.type_table.specs.declared.TypeId.{TypeId}
 
 -- ── paths ──
 
@@ -46,9 +44,9 @@ unfolding rule.whole_path
 whole_path_adds n r = then_nothing _ (type_res_adds n r) (λ t. nothing_then _ (set_extra_adds n _) (λ u. done_adds t))
 
 -- the method of a path
-path_method_adds : (n x name : ℕ) (d : MaybeDef) → Adds (cost 0 1 0 1 0) (rule.path_method n x name d)
-path_method_adds n x name (def.Of d) = nothing_then _ (set_extra_adds n _) (λ u. adds_within (search rules) (fn_def_adds d.0))
-path_method_adds n x name def.Absent = nothing_then _ (set_extra_adds n _) (λ u. adds_within (search rules) (error_then _ _))
+path_method_adds : (n x name : ℕ) (d : Option·R DefId) → Adds (cost 0 1 0 1 0) (rule.path_method n x name d)
+path_method_adds n x name (Some d) = nothing_then _ (set_extra_adds n _) (λ u. adds_within (search rules) (fn_def_adds d.0))
+path_method_adds n x name None = nothing_then _ (set_extra_adds n _) (λ u. adds_within (search rules) (error_then _ _))
 
 module _ (b : Body) where
   -- the method that is found for a path
@@ -84,9 +82,9 @@ module _ (b : Body) where
 -- ── fields and calls ──
 
 -- a field that is sought
-field_of_adds : (e x name : ℕ) (t : MaybeType) → Adds one_error (rule.field_of e x name t)
-field_of_adds e x name (type.Of t) = adds_any (done_adds t.0)
-field_of_adds e x name type.Absent = error_then _ _
+field_of_adds : (e x name : ℕ) (t : Option·R TypeId) → Adds one_error (rule.field_of e x name t)
+field_of_adds e x name (Some t) = adds_any (done_adds t.0)
+field_of_adds e x name None = error_then _ _
 
 -- what is no instance
 no_instance_adds : (e x : ℕ) (s : Shape) → Adds one_error (rule.no_instance e x s)
@@ -137,9 +135,9 @@ module _ (rows cells : List ℕ) where
   amounts_adds p f given = nothing_then _ all_types_adds (λ ts. amounts_of_adds p given (length (inputs_of ts rows cells f)))
 
   -- an argument and its input
-  argument_for_adds : (n : ℕ) (p : Span) (i y : ℕ) (t : MaybeType) → Adds one_equation_lem (rule.argument_for rows cells n p i y t)
-  argument_for_adds n p i y (type.Of x) = equate_on_adds n x.0 y _
-  argument_for_adds n p i y type.Absent = adds_any (done_adds tt)
+  argument_for_adds : (n : ℕ) (p : Span) (i y : ℕ) (t : Option·R TypeId) → Adds one_equation_lem (rule.argument_for rows cells n p i y t)
+  argument_for_adds n p i y (Some x) = equate_on_adds n x.0 y _
+  argument_for_adds n p i y None = adds_any (done_adds tt)
 
   -- an argument
   pub argument_adds : (n : ℕ) (p : Span) (f : Callee) (i y : ℕ) → Adds one_equation_lem (rule.argument rows cells n p f i y)
@@ -153,10 +151,10 @@ sought_cost (some none) = one_error
 sought_cost (some (some d)) = nothing
 
 -- a method that was found is no error
-method_or_error_adds : (n e x name : ℕ) (d : MaybeDef) → AddsBy sought_cost (rule.method_or_error n e x name d)
+method_or_error_adds : (n e x name : ℕ) (d : Option·R DefId) → AddsBy sought_cost (rule.method_or_error n e x name d)
 unfolding run ◌>>=◌ set_extra change error marked
-method_or_error_adds n e x name (def.Of d) = record { larger = λ s. written_larger (marked n (extra.Method d) s.own) s (kept_same refl) }
-method_or_error_adds n e x name def.Absent = record { larger = λ s. emitted_larger (rule.own_error error·K.MethodNotFound (rule.at e) x name) s }
+method_or_error_adds n e x name (Some d) = record { larger = λ s. written_larger (marked n (extra.Method d) s.own) s (kept_same refl) }
+method_or_error_adds n e x name None = record { larger = λ s. emitted_larger (rule.own_error error·K.MethodNotFound (rule.at e) x name) s }
 
 -- a method that is sought
 sought_adds : (b : Body) (n e x name : ℕ) → AddsBy sought_cost (rule.sought b n e x name)
@@ -175,14 +173,14 @@ method_of_adds b n e x name = by (eqb x rule.err_type)
 -- ── lambdas ──
 
 -- the output of a lambda
-pub lambda_output_adds : (n : ℕ) (t : MaybeType) → Adds one_var (rule.lambda_output n t)
+pub lambda_output_adds : (n : ℕ) (t : Option·R TypeId) → Adds one_var (rule.lambda_output n t)
 unfolding rule.lambda_output
 lambda_output_adds n t = then_nothing _ (new_infer_var_adds regular (drawn_by n)) (λ v. done_adds _)
 
 -- a param
-pub lambda_param_adds : (n : ℕ) (t : MaybeType) → Adds one_var (rule.lambda_param n t)
-lambda_param_adds n (type.Of t) = adds_any (set_node_type_adds n t.0)
-lambda_param_adds n type.Absent = then_nothing _ (new_infer_var_adds regular (drawn_by n)) (λ v. set_node_type_adds n v)
+pub lambda_param_adds : (n : ℕ) (t : Option·R TypeId) → Adds one_var (rule.lambda_param n t)
+lambda_param_adds n (Some t) = adds_any (set_node_type_adds n t.0)
+lambda_param_adds n None = then_nothing _ (new_infer_var_adds regular (drawn_by n)) (λ v. set_node_type_adds n v)
 
 -- the params of a lambda
 pub lambda_params_adds : (rows cells : List ℕ) (t : Items) → Adds (times t.count one_var) (rule.lambda_params rows cells t)

@@ -1,6 +1,6 @@
 -- The programs of the rules, whatever numbers are types: they make types of such types, each of one of six forms, raise equations of such types, whose errors name
 -- their sides, and refuse with 10 to 13 at a node of the file. The steps and the rules that type no other node are such programs. Assumes nothing.
-use Rattle.std.specs.Prelude.{◌≡◌, List, [], ◌∷◌, map, Bool, true, false, cond, eqb, ltb, leb, length, get_or, set}
+use Rattle.std.specs.Prelude.{◌≡◌, List, [], ◌∷◌, map, Bool, true, false, cond, eqb, ltb, leb, length, get_or, set, None, Option as Option·R, Some}
 use Rattle.std.proofs.Math.Path.{refl}
 use Rattle.std.proofs.Math.Option.{Option, none, some}
 use Prim.Native.Nat.{ℕ, suc, zero, ◌+◌, ◌<◌, ◌≤◌}
@@ -9,10 +9,6 @@ use Rattle.theory.specs.Rules.{Base, bool, nil, float, double, uint, int, inst, 
 use Rattle.theory.specs.Program.{done, refuse, draw, intern, equate, emit, mark, read, write, ◌>>=◌}
 use Rattle.theory.specs.Basics.{All}
 use Rattle.refs.specs.declared.Counts.{Counts}
-use Rattle.nodes.specs.declared.MaybeType.{MaybeType}
-use Rattle.nodes.specs.declared.MaybeType.TheVariants as type
-use Rattle.nodes.specs.declared.MaybeDef.{MaybeDef}
-use Rattle.nodes.specs.declared.MaybeDef.TheVariants as def
 use Rattle.nodes.specs.declared.Items.{Items}
 use Rattle.nodes.specs.declared.BinOp.{BinOp}
 use Rattle.nodes.specs.declared.BinOp.TheVariants as bin
@@ -30,6 +26,8 @@ use Rattle.record.specs.Own.{Own, typed, marked, resolved}
 use Rattle.record.specs.Steps.{State, Walk, Step, or_nil, change, set_node_type, set_extra, set_final, node_type_lem, shape_of_lem, all_types, output, drawn_by, new_infer_var, array_of, ref_to_lem, fn_def_lem, instance, param_type, make_lambda, mark_var, error, equation, for_each}
 use Rattle.rules.specs.Rules as rule
 use Rattle.bounds.specs.Refers.{DefBy, TypeBy, type_more, Declared, ItemsLower, Refers}
+use Rattle.type_table.specs.declared.DefId.{DefId}
+use Rattle.type_table.specs.declared.TypeId.{TypeId}
 
 -- ── types, definitions and instances ──
 
@@ -363,7 +361,7 @@ module _ {N : Counts} {W : Numbers} where
 
   module _ {b : Body} (K : Known N b W) where
     -- a declared type is a type
-    pub declared_known : (t : MaybeType) → TypeBy (Declared N) t → TypeBy W.type t
+    pub declared_known : (t : Option·R TypeId) → TypeBy (Declared N) t → TypeBy W.type t
     declared_known = type_more (Declared N) W.type (λ x h. K.type x h)
 
     -- the type of a definition
@@ -487,14 +485,14 @@ module _ {N : Counts} {W : Numbers} where
     local_type_confined n x t v = then_confined _ (set_extra_confined n _) (λ u q. set_node_type_confined n t v)
 
     -- a let without init
-    pub let_without_init_confined : (n : ℕ) (t : MaybeType) → n < N.nodes → TypeBy W.type t → Confined N W Any (rule.let_without_init n t)
-    let_without_init_confined n (type.Of t) l h = local_type_confined n t.0 t.0 h
-    let_without_init_confined n type.Absent l h = then_confined _ (new_infer_var_confined regular (drawn_by n) (n, l, refl)) (λ v q. set_node_type_confined n v q)
+    pub let_without_init_confined : (n : ℕ) (t : Option·R TypeId) → n < N.nodes → TypeBy W.type t → Confined N W Any (rule.let_without_init n t)
+    let_without_init_confined n (Some t) l h = local_type_confined n t.0 t.0 h
+    let_without_init_confined n None l h = then_confined _ (new_infer_var_confined regular (drawn_by n) (n, l, refl)) (λ v q. set_node_type_confined n v q)
 
     -- a let with init
-    pub let_with_init_confined : (n : ℕ) (t : MaybeType) (y : ℕ) → n < N.nodes → TypeBy W.type t → W.type y → Confined N W Any (rule.let_with_init n t y)
-    let_with_init_confined n (type.Of t) y h v u = then_confined _ (equation_confined n t.0 y (rule.mismatch error·K.TypeMismatch (rule.at n) t.0 y 0) h v u refl refl) (λ c q. local_type_confined n y t.0 v)
-    let_with_init_confined n type.Absent y h v u = local_type_confined n y y u
+    pub let_with_init_confined : (n : ℕ) (t : Option·R TypeId) (y : ℕ) → n < N.nodes → TypeBy W.type t → W.type y → Confined N W Any (rule.let_with_init n t y)
+    let_with_init_confined n (Some t) y h v u = then_confined _ (equation_confined n t.0 y (rule.mismatch error·K.TypeMismatch (rule.at n) t.0 y 0) h v u refl refl) (λ c q. local_type_confined n y t.0 v)
+    let_with_init_confined n None y h v u = local_type_confined n y y u
 
     -- a local
     pub local_or_refuse_confined : (n : ℕ) (o : Option ℕ) → n < N.nodes → Maybe W.type o → Confined N W W.type (rule.local_or_refuse n o)
@@ -502,14 +500,14 @@ module _ {N : Counts} {W : Numbers} where
     local_or_refuse_confined n (some t) h v = done_confined t v
 
     -- the method of a path
-    pub path_method_confined : (n x name : ℕ) (d : MaybeDef) → DefBy (λ i. i < N.defs) d → Confined N W W.type (rule.path_method n x name d)
-    path_method_confined n x name (def.Of d) h = then_confined _ (set_extra_confined n _) (λ u q. fn_def_confined d.0 (K.def d.0 h))
-    path_method_confined n x name def.Absent h = then_confined _ (set_extra_confined n _) (λ u q. error_then _ _ _ _ _ (K.type 12 (omega arith)))
+    pub path_method_confined : (n x name : ℕ) (d : Option·R DefId) → DefBy (λ i. i < N.defs) d → Confined N W W.type (rule.path_method n x name d)
+    path_method_confined n x name (Some d) h = then_confined _ (set_extra_confined n _) (λ u q. fn_def_confined d.0 (K.def d.0 h))
+    path_method_confined n x name None h = then_confined _ (set_extra_confined n _) (λ u q. error_then _ _ _ _ _ (K.type 12 (omega arith)))
 
     -- a field that is sought
-    field_of_confined : (e x name : ℕ) (t : MaybeType) → TypeBy W.type t → Confined N W W.type (rule.field_of e x name t)
-    field_of_confined e x name (type.Of t) h = done_confined t.0 h
-    field_of_confined e x name type.Absent h = error_then _ _ _ _ _ (K.type 12 (omega arith))
+    field_of_confined : (e x name : ℕ) (t : Option·R TypeId) → TypeBy W.type t → Confined N W W.type (rule.field_of e x name t)
+    field_of_confined e x name (Some t) h = done_confined t.0 h
+    field_of_confined e x name None h = error_then _ _ _ _ _ (K.type 12 (omega arith))
 
     -- what is no instance
     no_instance_confined : (e x : ℕ) (s : Shape) → Confined N W W.type (rule.no_instance e x s)
@@ -517,18 +515,18 @@ module _ {N : Counts} {W : Numbers} where
     no_instance_confined e x s = cond_confined (eqb (head s) error_head) (done_confined _ (K.type 12 (omega arith))) (error_then _ _ _ _ _ (K.type 12 (omega arith)))
 
     -- the output of a lambda
-    pub lambda_output_confined : (n : ℕ) (t : MaybeType) → n < N.nodes → TypeBy W.type t → Confined N W W.type (rule.lambda_output n t)
+    pub lambda_output_confined : (n : ℕ) (t : Option·R TypeId) → n < N.nodes → TypeBy W.type t → Confined N W W.type (rule.lambda_output n t)
     unfolding rule.lambda_output
     lambda_output_confined n t l h = then_confined _ (new_infer_var_confined regular (drawn_by n) (n, l, refl)) (λ v q. done_confined _ (by t h q))
       where
-        by : (t : MaybeType) → TypeBy W.type t → {v : ℕ} → W.type v → W.type (rule.declared_or t v)
-        by (type.Of t) h q = h
-        by type.Absent h q = q
+        by : (t : Option·R TypeId) → TypeBy W.type t → {v : ℕ} → W.type v → W.type (rule.declared_or t v)
+        by (Some t) h q = h
+        by None h q = q
 
     -- a param
-    lambda_param_confined : (n : ℕ) (t : MaybeType) → n < N.nodes → TypeBy W.type t → Confined N W Any (rule.lambda_param n t)
-    lambda_param_confined n (type.Of t) l h = set_node_type_confined n t.0 h
-    lambda_param_confined n type.Absent l h = then_confined _ (new_infer_var_confined regular (drawn_by n) (n, l, refl)) (λ v q. set_node_type_confined n v q)
+    lambda_param_confined : (n : ℕ) (t : Option·R TypeId) → n < N.nodes → TypeBy W.type t → Confined N W Any (rule.lambda_param n t)
+    lambda_param_confined n (Some t) l h = set_node_type_confined n t.0 h
+    lambda_param_confined n None l h = then_confined _ (new_infer_var_confined regular (drawn_by n) (n, l, refl)) (λ v q. set_node_type_confined n v q)
 
     -- a lambda's equation and its type
     pub lambda_rule_confined : (cells : List ℕ) (n e o y : ℕ) (t : Items) → n < N.nodes → W.type o → W.type y → Confined N W W.type (rule.lambda cells n e o y t)
@@ -536,9 +534,9 @@ module _ {N : Counts} {W : Numbers} where
     lambda_rule_confined cells n e o y t h v u = then_confined _ (equate_on_confined n o y (rule.mismatch error·K.TypeMismatch (rule.at e) o y 0) h v u refl refl) (λ c q. make_lambda_confined n o _ v)
 
     -- a method that was sought
-    method_or_error_confined : (n e x name : ℕ) (d : MaybeDef) → DefBy (λ i. i < N.defs) d → Confined N W (Maybe W.def) (rule.method_or_error n e x name d)
-    method_or_error_confined n e x name (def.Of d) h = then_confined _ (set_extra_confined n _) (λ u q. done_confined _ (K.def d.0 h))
-    method_or_error_confined n e x name def.Absent h = error_then _ _ _ _ _ tt
+    method_or_error_confined : (n e x name : ℕ) (d : Option·R DefId) → DefBy (λ i. i < N.defs) d → Confined N W (Maybe W.def) (rule.method_or_error n e x name d)
+    method_or_error_confined n e x name (Some d) h = then_confined _ (set_extra_confined n _) (λ u q. done_confined _ (K.def d.0 h))
+    method_or_error_confined n e x name None h = error_then _ _ _ _ _ tt
 
     module _ (R : Refers N b) where
       -- a field, by the instance
@@ -590,9 +588,9 @@ module _ {N : Counts} {W : Numbers} where
       amounts_confined p f given = then_confined _ all_types_confined (λ ts k. cond_confined (eqb (length (inputs_of ts b.rows b.cells f)) given) (done_confined tt tt) (error_confined _ _ _ _))
 
       -- an argument and its input
-      argument_for_confined : (n : ℕ) (p : Span) (i y : ℕ) (t : MaybeType) → n < N.nodes → W.type y → TypeBy W.type t → Confined N W Any (rule.argument_for b.rows b.cells n p i y t)
-      argument_for_confined n p i y (type.Of x) h u v = equate_on_confined n x.0 y (rule.mismatch error·K.WrongArgumentTy p x.0 y i) h v u refl refl
-      argument_for_confined n p i y type.Absent h u v = done_confined tt tt
+      argument_for_confined : (n : ℕ) (p : Span) (i y : ℕ) (t : Option·R TypeId) → n < N.nodes → W.type y → TypeBy W.type t → Confined N W Any (rule.argument_for b.rows b.cells n p i y t)
+      argument_for_confined n p i y (Some x) h u v = equate_on_confined n x.0 y (rule.mismatch error·K.WrongArgumentTy p x.0 y i) h v u refl refl
+      argument_for_confined n p i y None h u v = done_confined tt tt
 
       -- an argument
       pub argument_confined : (n : ℕ) (p : Span) (f : Callee) (i y : ℕ) → n < N.nodes → Callable W f → W.type y → Confined N W Any (rule.argument b.rows b.cells n p f i y)
@@ -626,9 +624,9 @@ any_all [] = tt
 any_all (x ∷ l) = (tt, any_all l)
 
 -- a type, if there is one
-any_type : (t : MaybeType) → TypeBy Any t
-any_type type.Absent = tt
-any_type (type.Of t) = tt
+any_type : (t : Option·R TypeId) → TypeBy Any t
+any_type None = tt
+any_type (Some t) = tt
 
 -- a number, if there is one
 any_maybe : (o : Option ℕ) → Maybe Any o

@@ -1,6 +1,6 @@
 -- What a well-formed body runs behind its type lines is a program as Confined says: of types alone, making types of the six forms, refused with 10 to 13 at a node.
 -- Assumes nothing.
-use Rattle.std.specs.Prelude.{◌≡◌, List, Bool, true, false, cond, ℕ, suc, zero, ◌-◌, ◌<◌, eqb, length}
+use Rattle.std.specs.Prelude.{◌≡◌, List, Bool, true, false, cond, ℕ, suc, zero, ◌-◌, ◌<◌, eqb, length, None, Option as Option·R, Some}
 use Rattle.std.proofs.Math.Path.{refl}
 use Rattle.std.proofs.Math.Option.{Option, none, some}
 use Rattle.std.proofs.Common.{arith}
@@ -8,17 +8,9 @@ use Rattle.std.proofs.lemmas.Bool.{eqb-false}
 use Rattle.theory.specs.Rules.{Shape, Kind, regular, integer, floating, as_var, row, bound}
 use Rattle.theory.specs.Program.{◌>>=◌}
 use Rattle.refs.specs.declared.Counts.{Counts}
-use Rattle.nodes.specs.declared.MaybeType.{MaybeType}
-use Rattle.nodes.specs.declared.MaybeType.TheVariants as type
-use Rattle.nodes.specs.declared.MaybeNode.{MaybeNode}
-use Rattle.nodes.specs.declared.MaybeNode.TheVariants as node
 use Rattle.nodes.specs.declared.Items.{Items}
 use Rattle.nodes.specs.declared.Callee.{Callee}
 use Rattle.nodes.specs.declared.Callee.TheVariants as callee
-use Rattle.nodes.specs.declared.Local.{Local}
-use Rattle.nodes.specs.declared.Local.TheVariants as local
-use Rattle.nodes.specs.declared.Block.{Block}
-use Rattle.nodes.specs.declared.Block.TheVariants as block
 use Rattle.nodes.specs.Nodes.{Body, item, declared_at, let_at, as_arr}
 use Rattle.record.specs.declared.ErrorKind.TheVariants as error·K
 use Rattle.record.specs.declared.Span.{Span}
@@ -27,6 +19,8 @@ use Rattle.walk.specs.Walk.{Visit, two, element, elements, rest, typeck_expr_lis
 use Rattle.resolve.specs.Resolve.{bound_of, end_by, end_from, param_type_lem, param, params, end_of, drawn_as, open_type, variable_type, settled, resolve_variable, resolve_array, resolve_element, resolve_shape, resolve_type_variable, final_type, resolve_node, resolve_nodes}
 use Rattle.bounds.specs.Refers.{TypeBy, MaybeLower, ItemsLower, LocalLower, BlockLower, Refers}
 use Rattle.bounds.specs.Confined.{Maybe, Numbers, Parts, IsConfined, Confined, Any, Known, Callable, Called, as_arr_lem, declared_known, then_confined, done_confined, set_node_type_confined, set_final_confined, node_type_confined, shape_of_confined, array_of_confined, each_confined, equate_for_confined, equate_on_confined, error_then, empty_list_confined, returned_confined, let_without_init_confined, let_with_init_confined, amounts_confined, argument_confined}
+use Rattle.type_table.specs.declared.NodeId.{NodeId}
+use Rattle.type_table.specs.declared.TypeId.{TypeId}
 
 -- ── the rules that type other nodes, where E types each node by such a program ──
 
@@ -57,25 +51,25 @@ module _ {N : Counts} {W : Numbers} {b : Body} (K : Known N b W) (R : Refers N b
   index_of_confined n i (some e) h hi u = then_confined _ (visit i hi) (λ y v. equate_for_confined K n _ y (rule.mismatch error·K.TypeMismatch (rule.at n) rule.u64_type y 0) e h (K.type 5 (omega arith)) v u refl refl)
 
   -- a let
-  local_confined : (n : ℕ) (t : MaybeType) (e : MaybeNode) → n < N.nodes → TypeBy W.type t → MaybeLower N.nodes e → Confined N W Any (typeck_local b E n t e)
+  local_confined : (n : ℕ) (t : Option·R TypeId) (e : Option·R NodeId) → n < N.nodes → TypeBy W.type t → MaybeLower N.nodes e → Confined N W Any (typeck_local b E n t e)
   unfolding typeck_local
-  local_confined n t node.Absent h u m = let_without_init_confined K n t h u
-  local_confined n t (node.Of e) h u m = then_confined _ (visit e.0 m) (λ y v. let_with_init_confined K n t y h u v)
+  local_confined n t None h u m = let_without_init_confined K n t h u
+  local_confined n t (Some e) h u m = then_confined _ (visit e.0 m) (λ y v. let_with_init_confined K n t y h u v)
 
   -- a statement
-  stmt_confined : (n : ℕ) (l : Local) → n < N.nodes → LocalLower N b.cells l → Confined N W Any (typeck_stmt b E n l)
+  stmt_confined : (n : ℕ) (l : Option·R (Option·R TypeId × Option·R NodeId)) → n < N.nodes → LocalLower N b.cells l → Confined N W Any (typeck_stmt b E n l)
   unfolding typeck_stmt
-  stmt_confined n (local.Let t e) h m = local_confined n t e h (declared_known K t m.0) m.1
-  stmt_confined n local.Not h m = then_confined _ (visit n h) (λ u q. done_confined tt tt)
+  stmt_confined n (Some (t, e)) h m = local_confined n t e h (declared_known K t m.0) m.1
+  stmt_confined n None h m = then_confined _ (visit n h) (λ u q. done_confined tt tt)
 
   -- the tail of a block
-  tail_confined : (e : MaybeNode) → MaybeLower N.nodes e → Confined N W W.type (tail b E e)
+  tail_confined : (e : Option·R NodeId) → MaybeLower N.nodes e → Confined N W W.type (tail b E e)
   unfolding tail
-  tail_confined node.Absent m = done_confined _ (K.type 0 (omega arith))
-  tail_confined (node.Of e) m = visit e.0 m
+  tail_confined None m = done_confined _ (K.type 0 (omega arith))
+  tail_confined (Some e) m = visit e.0 m
 
   -- a block
-  pub block_confined : (e : MaybeNode) (t : Items) → MaybeLower N.nodes e → ItemsLower N b.cells t → Confined N W W.type (typeck_block b E e t)
+  pub block_confined : (e : Option·R NodeId) (t : Items) → MaybeLower N.nodes e → ItemsLower N b.cells t → Confined N W W.type (typeck_block b E e t)
   unfolding typeck_block stmts stmt
   block_confined e t m I =
       then_confined _
@@ -84,15 +78,15 @@ module _ {N : Counts} {W : Numbers} {b : Body} (K : Known N b W) (R : Refers N b
       (λ u q. tail_confined e m)
 
   -- BLOCK
-  pub block_of_confined : (k : Block) → BlockLower N b.cells k → Confined N W W.type (block_of b E k)
-  block_of_confined (block.Of e t) m = block_confined e t m.0 m.1
-  block_of_confined block.Not m = done_confined _ (K.type 0 (omega arith))
+  pub block_of_confined : (k : Option·R (Option·R NodeId × Items)) → BlockLower N b.cells k → Confined N W W.type (block_of b E k)
+  block_of_confined (Some (e, t)) m = block_confined e t m.0 m.1
+  block_of_confined None m = done_confined _ (K.type 0 (omega arith))
 
   -- what stands after else
-  pub else_confined : (n x : ℕ) (e : MaybeNode) → n < N.nodes → W.type x → MaybeLower N.nodes e → Confined N W W.type (typeck_else b E n x e)
+  pub else_confined : (n x : ℕ) (e : Option·R NodeId) → n < N.nodes → W.type x → MaybeLower N.nodes e → Confined N W W.type (typeck_else b E n x e)
   unfolding rule.branches typeck_else
-  else_confined n x node.Absent h u m = done_confined _ (K.type 0 (omega arith))
-  else_confined n x (node.Of e) h u m = then_confined _ (visit e.0 m) (λ y v. equate_for_confined K n x y (rule.mismatch error·K.TypeMismatch (rule.at e.0) x y 0) x h u v u refl refl)
+  else_confined n x None h u m = done_confined _ (K.type 0 (omega arith))
+  else_confined n x (Some e) h u m = then_confined _ (visit e.0 m) (λ y v. equate_for_confined K n x y (rule.mismatch error·K.TypeMismatch (rule.at e.0) x y 0) x h u v u refl refl)
 
   -- the arguments
   args_confined : (n : ℕ) (p : Span) (f : Callee) (t : Items) (from : ℕ) → n < N.nodes → Callable W f → ItemsLower N b.cells t → Confined N W Any (args b E n p f t from)
@@ -116,25 +110,25 @@ module _ {N : Counts} {W : Numbers} {b : Body} (K : Known N b W) (R : Refers N b
       (λ z r. then_confined _ (args_confined n _ (callee.Def (record { 0 = d })) t 1 h c I) (λ a s. done_confined _ (K.outputs d c))))
 
   -- a `return`
-  pub return_confined : (n : ℕ) (e : MaybeNode) → n < N.nodes → MaybeLower N.nodes e → Confined N W W.type (typeck_return b E n e)
+  pub return_confined : (n : ℕ) (e : Option·R NodeId) → n < N.nodes → MaybeLower N.nodes e → Confined N W W.type (typeck_return b E n e)
   unfolding typeck_return
-  return_confined n node.Absent h m = returned_confined K n n _ h (K.type 0 (omega arith))
-  return_confined n (node.Of e) h m = then_confined _ (visit e.0 m) (λ y v. returned_confined K n e.0 y h v)
+  return_confined n None h m = returned_confined K n n _ h (K.type 0 (omega arith))
+  return_confined n (Some e) h m = then_confined _ (visit e.0 m) (λ y v. returned_confined K n e.0 y h v)
 
 -- ── around the walk ──
 
 module _ {N : Counts} {W : Numbers} {b : Body} (K : Known N b W) where
   -- a declared type
-  param_type_confined : (n : ℕ) (t : MaybeType) → TypeBy W.type t → Confined N W Any (param_type_lem n t)
-  param_type_confined n (type.Of t) u = set_node_type_confined n t.0 u
-  param_type_confined n type.Absent u = done_confined tt tt
+  param_type_confined : (n : ℕ) (t : Option·R TypeId) → TypeBy W.type t → Confined N W Any (param_type_lem n t)
+  param_type_confined n (Some t) u = set_node_type_confined n t.0 u
+  param_type_confined n None u = done_confined tt tt
 
   -- each P of `fn`
   pub params_confined : Refers N b → (t : Items) → ItemsLower N b.cells t → Confined N W Any (params b.rows b.cells t)
   unfolding params param
   params_confined R t I =
       each_confined 0 t.count _
-      (λ i l. let d : MaybeType = declared_at b.rows b.cells (item b.cells t i) in param_type_confined _ d (declared_known K d (R.params (item b.cells t i) (I i (omega arith)))))
+      (λ i l. let d : (Option·R TypeId) = declared_at b.rows b.cells (item b.cells t i) in param_type_confined _ d (declared_known K d (R.params (item b.cells t i) (I i (omega arith)))))
 
   -- the end of a row's bindings, of any number of steps
   end_known : (ts : List Shape) (c : List (Option ℕ)) → ((v : ℕ) → Maybe W.type (bound c v)) → (k x : ℕ) → W.type x → W.type (end_from ts c k x)

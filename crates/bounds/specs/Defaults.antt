@@ -1,14 +1,10 @@
 -- The walk of a body with any other answers in the place of the defaults of its definitions: Claims has that it runs as the walk itself. Definitions alone.
-use Rattle.std.specs.Prelude.{List, map, ℕ, suc, zero, length, get_or}
+use Rattle.std.specs.Prelude.{List, map, ℕ, suc, zero, length, get_or, None, Option as Option·R, Some}
 use Rattle.std.proofs.Math.Option.{Option, none, some}
 use Rattle.theory.specs.Rules.{Shape, lam, Kind, regular, integer, floating, as_var, row, iter}
 use Rattle.theory.specs.Program.{clip, done, intern, read, ◌>>=◌}
 use Rattle.refs.specs.declared.Counts.{Counts}
-use Rattle.nodes.specs.declared.MaybeType.{MaybeType}
-use Rattle.nodes.specs.declared.MaybeNode.{MaybeNode}
 use Rattle.nodes.specs.declared.Items.{Items}
-use Rattle.nodes.specs.declared.Block.{Block}
-use Rattle.nodes.specs.declared.Block.TheVariants as block
 use Rattle.nodes.specs.declared.Node.{Node}
 use Rattle.nodes.specs.declared.Node.TheVariants as form
 use Rattle.nodes.specs.Nodes.{Body, items_of, node_at, block_at, fn_line, as_arr}
@@ -17,6 +13,8 @@ use Rattle.record.specs.Steps.{State, Walk, Step, set_node_type, set_final, node
 use Rattle.rules.specs.Rules as rule
 use Rattle.walk.specs.Walk.{Visit, typeck_block, typeck_else, rule_of}
 use Rattle.resolve.specs.Resolve.{declare_types, params, result, bound_of, end_by, drawn_as, body_with}
+use Rattle.type_table.specs.declared.NodeId.{NodeId}
+use Rattle.type_table.specs.declared.TypeId.{TypeId}
 
 -- what is answered where the rules have nothing to say
 pub record Defaults : Type 0 where
@@ -42,12 +40,12 @@ or_other d (some x) = x
 
 module _ (D : Defaults) (b : Body) (E : Visit) where
   -- the BLOCK k
-  abbrev pub other_block : ℕ → Block → Walk ℕ
-  other_block k (block.Of e t) = typeck_block b E e t
-  other_block k block.Not = D.block k
+  abbrev pub other_block : ℕ → Option·R (Option·R NodeId × Items) → Walk ℕ
+  other_block k (Some (e, t)) = typeck_block b E e t
+  other_block k None = D.block k
 
   -- `typeck_expr_if`
-  unfoldable pub other_if : ℕ → ℕ → ℕ → MaybeNode → Walk ℕ
+  unfoldable pub other_if : ℕ → ℕ → ℕ → Option·R NodeId → Walk ℕ
   other_if n a k e = do
     x ← E a
     _ ← rule.condition a x
@@ -65,7 +63,7 @@ module _ (D : Defaults) (b : Body) (E : Visit) where
   other_input s p = clip (length s.rows) (or_other D.param (get_or s.own.raw p none))
 
   -- `typeck_lambda`
-  unfoldable pub other_lambda : ℕ → MaybeType → ℕ → Items → Walk ℕ
+  unfoldable pub other_lambda : ℕ → Option·R TypeId → ℕ → Items → Walk ℕ
   other_lambda n o e t = do
     _ ← rule.lambda_params b.rows b.cells t
     x ← rule.lambda_output n o

@@ -1,5 +1,5 @@
 -- The levels of a walk never run out: with as many levels as a node has, its typing is the same program as with any more. Assumes nothing.
-use Rattle.std.specs.Prelude.{◌≡◌, List, Bool, false, cond, eqb}
+use Rattle.std.specs.Prelude.{◌≡◌, List, Bool, false, cond, eqb, None, Option as Option·R, Some}
 use Rattle.std.proofs.Math.Path.{refl, fun_ext}
 use Rattle.std.proofs.Common.{ap, ◌∙◌, arith, add-zero, eqb-true}
 use Rattle.std.proofs.Math.Option.{Option, none, some}
@@ -11,15 +11,10 @@ use Rattle.type_table.specs.Memory.{pick}
 use Rattle.forms.specs.Form.{forms, form_at, kind_at}
 use Rattle.refs.specs.declared.Counts.{Counts}
 use Rattle.refs.specs.Refs.{nodes_at, form_in, first_in, levels_in, tag_in, value_in, refers_to}
-use Rattle.nodes.specs.declared.MaybeType.{MaybeType}
-use Rattle.nodes.specs.declared.MaybeNode.{MaybeNode}
-use Rattle.nodes.specs.declared.MaybeNode.TheVariants as node
 use Rattle.nodes.specs.declared.Items.{Items}
 use Rattle.nodes.specs.declared.BinOp.{BinOp}
 use Rattle.nodes.specs.declared.UnOp.{UnOp}
 use Rattle.nodes.specs.declared.Callee.{Callee}
-use Rattle.nodes.specs.declared.Local.{Local}
-use Rattle.nodes.specs.declared.Block.{Block}
 use Rattle.nodes.specs.declared.Node.{Node}
 use Rattle.nodes.specs.Nodes.{Body, field_in, item, maybe_node, node_of, node_at, field_of, let_at, block_at, fn_line}
 use Rattle.record.specs.declared.Span.{Span}
@@ -32,6 +27,8 @@ use Rattle.well_formed.specs.UsedOnce.{child_in}
 use Rattle.well_formed.specs.Weight.{node_level, body_in}
 use Rattle.well_formed.proofs.Levels.{child_fewer}
 use Rattle.bounds.specs.Weights.{pick_by, is_node, is_optional, kind_by, first_child, items_at, first_field, Part, node_part, optional_part, item_part, body_lower}
+use Rattle.type_table.specs.declared.NodeId.{NodeId}
+use Rattle.type_table.specs.declared.TypeId.{TypeId}
 
 -- ── programs ──
 
@@ -48,12 +45,12 @@ each_same i (suc k) f g h = bind_same (h i (omega arith)) (λ x. each_same (suc 
 -- ── the rules, where E and F type each child of a node by the same program ──
 
 -- by whether there is one
-abbrev SameBy : Visit → Visit → MaybeNode → Type 0
-SameBy E F node.Absent = Unit {0}
-SameBy E F (node.Of e) = E e.0 ≡ F e.0
+abbrev SameBy : Visit → Visit → Option·R NodeId → Type 0
+SameBy E F None = Unit {0}
+SameBy E F (Some e) = E e.0 ≡ F e.0
 
 -- E and F type a node, if there is one, by the same program
-record SameMaybe (E F : Visit) (e : MaybeNode) : Type 0 where
+record SameMaybe (E F : Visit) (e : Option·R NodeId) : Type 0 where
   by : SameBy E F e
 
 -- and so each item
@@ -116,30 +113,30 @@ module _ (b : Body) (E F : Visit) where
   index_same n T I = bind_same T (λ x. bind_same refl (λ o. index_of_same n I o))
 
   -- a let
-  local_same : (n : ℕ) (t : MaybeType) (e : MaybeNode) → SameMaybe E F e → typeck_local b E n t e ≡ typeck_local b F n t e
+  local_same : (n : ℕ) (t : Option·R TypeId) (e : Option·R NodeId) → SameMaybe E F e → typeck_local b E n t e ≡ typeck_local b F n t e
   unfolding typeck_local
-  local_same n t node.Absent T = refl
-  local_same n t (node.Of e) T = bind_same T.by (λ y. refl)
+  local_same n t None T = refl
+  local_same n t (Some e) T = bind_same T.by (λ y. refl)
 
   -- the tail of a block
-  tail_same : (e : MaybeNode) → SameMaybe E F e → tail b E e ≡ tail b F e
+  tail_same : (e : Option·R NodeId) → SameMaybe E F e → tail b E e ≡ tail b F e
   unfolding tail
-  tail_same node.Absent T = refl
-  tail_same (node.Of e) T = T.by
+  tail_same None T = refl
+  tail_same (Some e) T = T.by
 
   -- a block
-  block_same : (e : MaybeNode) (t : Items) → SameMaybe E F e → ((i : ℕ) → i < t.count → stmt b E t i ≡ stmt b F t i) → typeck_block b E e t ≡ typeck_block b F e t
+  block_same : (e : Option·R NodeId) (t : Items) → SameMaybe E F e → ((i : ℕ) → i < t.count → stmt b E t i ≡ stmt b F t i) → typeck_block b E e t ≡ typeck_block b F e t
   unfolding typeck_block stmts
   block_same e t T S = bind_same (each_same 0 t.count _ _ (λ i l. S i (omega arith))) (λ x. tail_same e T)
 
   -- what stands after else
-  else_same : (n x : ℕ) (e : MaybeNode) → SameMaybe E F e → typeck_else b E n x e ≡ typeck_else b F n x e
+  else_same : (n x : ℕ) (e : Option·R NodeId) → SameMaybe E F e → typeck_else b E n x e ≡ typeck_else b F n x e
   unfolding typeck_else
-  else_same n x node.Absent T = refl
-  else_same n x (node.Of e) T = bind_same T.by (λ y. refl)
+  else_same n x None T = refl
+  else_same n x (Some e) T = bind_same T.by (λ y. refl)
 
   -- an `if`
-  if-same : {a : ℕ} (n k : ℕ) (e : MaybeNode) → E a ≡ F a → block_at_lem b E k ≡ block_at_lem b F k → SameMaybe E F e → typeck_expr_if b E n a k e ≡ typeck_expr_if b F n a k e
+  if-same : {a : ℕ} (n k : ℕ) (e : Option·R NodeId) → E a ≡ F a → block_at_lem b E k ≡ block_at_lem b F k → SameMaybe E F e → typeck_expr_if b E n a k e ≡ typeck_expr_if b F n a k e
   unfolding typeck_expr_if typeck_branches
   if-same n k e C K T = bind_same C (λ x. bind_same refl (λ z. bind_same K (λ y. else_same n y e T)))
 
@@ -149,10 +146,10 @@ module _ (b : Body) (E F : Visit) where
   loop_same k K = bind_same K (λ x. refl)
 
   -- a `return`
-  return_same : (n : ℕ) (e : MaybeNode) → SameMaybe E F e → typeck_return b E n e ≡ typeck_return b F n e
+  return_same : (n : ℕ) (e : Option·R NodeId) → SameMaybe E F e → typeck_return b E n e ≡ typeck_return b F n e
   unfolding typeck_return
-  return_same n node.Absent T = refl
-  return_same n (node.Of e) T = bind_same T.by (λ y. refl)
+  return_same n None T = refl
+  return_same n (Some e) T = bind_same T.by (λ y. refl)
 
   module _ (n : ℕ) (t : Items) (T : SameItems E F b.cells t) where
     -- the arguments
@@ -183,7 +180,7 @@ module _ (b : Body) (E F : Visit) where
     meth_call_same name R = bind_same R (λ x. bind_same refl (meth_call_of_same x))
 
   -- a lambda
-  lambda_same : {e : ℕ} (n : ℕ) (o : MaybeType) (t : Items) → E e ≡ F e → typeck_lambda b E n o e t ≡ typeck_lambda b F n o e t
+  lambda_same : {e : ℕ} (n : ℕ) (o : Option·R TypeId) (t : Items) → E e ≡ F e → typeck_lambda b E n o e t ≡ typeck_lambda b F n o e t
   unfolding typeck_lambda lambda_body
   lambda_same n o t T = bind_same refl (λ x. bind_same refl (λ y. bind_same T (λ z. refl)))
 
@@ -203,7 +200,7 @@ module _ (n : Counts) (rows cells : List ℕ) (w : WellFormed n rows cells) (k :
     maybe_same : (i j : ℕ) → i < (form_at f).4 → is_optional (kind_at (form_at f) i) ≡ true → first_in rows (nodes_at + x) + i ≡ j → SameMaybe E F (maybe_node (field_in cells j))
     unfolding maybe_node
     maybe_same i j b t q =
-        pick_by (λ (m : MaybeNode). SameMaybe E F m) (eqb (tag_in cells j) 0) _ _
+        pick_by (λ (m : Option·R NodeId). SameMaybe E F m) (eqb (tag_in cells j) 0) _ _
         (λ z. record { by = tt })
         (λ z. record { by = part_same h l (optional_part n rows cells w x h f e i (value_in cells j) b t (rw q z) (ap (value_in cells) q)) })
 
@@ -215,7 +212,7 @@ module _ (n : Counts) (rows cells : List ℕ) (w : WellFormed n rows cells) (k :
   stmt_same : (y : ℕ) → y < n.nodes → levels_in rows (nodes_at + y) ≤ k → typeck_stmt (body_with n rows cells) E y (let_at rows cells y) ≡ typeck_stmt (body_with n rows cells) F y (let_at rows cells y)
   unfolding let_at field_of form_at forms kind_at is_optional refers_to typeck_stmt
   stmt_same y h l =
-      pick_by (λ (m : Local). typeck_stmt (body_with n rows cells) E y m ≡ typeck_stmt (body_with n rows cells) F y m) (eqb (form_in rows (nodes_at + y)) 25) _ _
+      pick_by (λ (m : Option·R (Option·R TypeId × Option·R NodeId)). typeck_stmt (body_with n rows cells) E y m ≡ typeck_stmt (body_with n rows cells) F y m) (eqb (form_in rows (nodes_at + y)) 25) _ _
       (λ e. local_same (body_with n rows cells) E F y _ _ (maybe_same y h (omega arith) 25 (eqb-true _ 25 e) 1 _ (omega arith) refl refl))
       (λ z. bind_same (visit y h l) (λ t. refl))
 
@@ -235,7 +232,7 @@ module _ (n : Counts) (rows cells : List ℕ) (w : WellFormed n rows cells) (k :
     block_at_same : block_at_lem (body_with n rows cells) E x ≡ block_at_lem (body_with n rows cells) F x
     unfolding block_at_lem block_at field_of
     block_at_same =
-        pick_by (λ (m : Block). block_of (body_with n rows cells) E m ≡ block_of (body_with n rows cells) F m) (eqb (form_in rows (nodes_at + x)) 24) _ _
+        pick_by (λ (m : Option·R (Option·R NodeId × Items)). block_of (body_with n rows cells) E m ≡ block_of (body_with n rows cells) F m) (eqb (form_in rows (nodes_at + x)) 24) _ _
         (λ e. node_block_same (eqb-true _ 24 e) _ refl)
         (λ z. refl)
 

@@ -1,5 +1,5 @@
 -- What the numbers refer to that the rules read of a well-formed body: nodes, definitions, instances and declared types of the file. Assumes nothing.
-use Rattle.std.specs.Prelude.{◌≡◌, List, Bool, true, false, cond, eqb, get_or}
+use Rattle.std.specs.Prelude.{◌≡◌, List, Bool, true, false, cond, eqb, get_or, None, Option, Some}
 use Rattle.std.proofs.Math.Path.{refl}
 use Rattle.std.proofs.Common.{ap, add-zero}
 use Rattle.std.proofs.lemmas.Bool.{false≢true}
@@ -12,19 +12,9 @@ use Rattle.type_table.specs.Memory.{pick}
 use Rattle.forms.specs.Form.{forms, no_form, form_at, kind_at, key_def, key_inst, key_bind, key_node, key_fn, TypeRef, NamedType, NamedDef, OptType, Segment}
 use Rattle.refs.specs.declared.Counts.{Counts}
 use Rattle.refs.specs.Refs.{defs_at, insts_at, binds_at, nodes_at, fn_at, a_res, form_in, first_in, count_in, name_in, tag_in, value_in, refers_to}
-use Rattle.nodes.specs.declared.MaybeType.{MaybeType}
-use Rattle.nodes.specs.declared.MaybeType.TheVariants as type
-use Rattle.nodes.specs.declared.MaybeNode.{MaybeNode}
-use Rattle.nodes.specs.declared.MaybeNode.TheVariants as node
-use Rattle.nodes.specs.declared.MaybeDef.{MaybeDef}
-use Rattle.nodes.specs.declared.MaybeDef.TheVariants as def
 use Rattle.nodes.specs.declared.Items.{Items}
 use Rattle.nodes.specs.declared.Res.{Res}
 use Rattle.nodes.specs.declared.Res.TheVariants as res
-use Rattle.nodes.specs.declared.Local.{Local}
-use Rattle.nodes.specs.declared.Local.TheVariants as local
-use Rattle.nodes.specs.declared.Block.{Block}
-use Rattle.nodes.specs.declared.Block.TheVariants as block
 use Rattle.nodes.specs.declared.Node.{Node}
 use Rattle.nodes.specs.declared.Node.TheVariants as form
 use Rattle.nodes.specs.Nodes.{Body, field_in, count_behind, maybe_type, maybe_node, res_of, item, numbers_from, items_of, node_of, node_at, field_of, declared_at, let_at, block_at, fn_line, output_of, def_inputs, named_from, as_type, as_def, field_type, binds_for, method_in, or_else, method_from, method, segment_res}
@@ -35,28 +25,31 @@ use Rattle.well_formed.specs.Counting.{each, each_at}
 use Rattle.well_formed.specs.UsedOnce.{child_in}
 use Rattle.well_formed.specs.Weight.{node_good, fn_count, fn_child_lower}
 use Rattle.bounds.specs.Weights.{pick_by, is_node, is_optional, kind_by, first_child, items_at, first_field, items_inside, node_part, optional_part, item_part}
+use Rattle.type_table.specs.declared.DefId.{DefId}
+use Rattle.type_table.specs.declared.NodeId.{NodeId}
+use Rattle.type_table.specs.declared.TypeId.{TypeId}
 
 -- ── what the rules read ──
 
 -- a node, if there is one, is one of the first k
-abbrev pub MaybeLower : ℕ → MaybeNode → Type 0
-MaybeLower k node.Absent = Unit {0}
-MaybeLower k (node.Of e) = e.0 < k
+abbrev pub MaybeLower : ℕ → Option NodeId → Type 0
+MaybeLower k None = Unit {0}
+MaybeLower k (Some e) = e.0 < k
 
 -- P holds of the number of a definition, if there is one
-abbrev pub DefBy : (ℕ → Type 0) → MaybeDef → Type 0
-DefBy P def.Absent = Unit {0}
-DefBy P (def.Of d) = P d.0
+abbrev pub DefBy : (ℕ → Type 0) → Option DefId → Type 0
+DefBy P None = Unit {0}
+DefBy P (Some d) = P d.0
 
 -- P holds of the number of a type, if there is one
-abbrev pub TypeBy : (ℕ → Type 0) → MaybeType → Type 0
-TypeBy P type.Absent = Unit {0}
-TypeBy P (type.Of t) = P t.0
+abbrev pub TypeBy : (ℕ → Type 0) → Option TypeId → Type 0
+TypeBy P None = Unit {0}
+TypeBy P (Some t) = P t.0
 
 -- what follows of a type, if there is one
-pub type_more : (P Q : ℕ → Type 0) → ((x : ℕ) → P x → Q x) → (t : MaybeType) → TypeBy P t → TypeBy Q t
-type_more P Q h type.Absent m = tt
-type_more P Q h (type.Of t) m = h t.0 m
+pub type_more : (P Q : ℕ → Type 0) → ((x : ℕ) → P x → Q x) → (t : Option TypeId) → TypeBy P t → TypeBy Q t
+type_more P Q h None m = tt
+type_more P Q h (Some t) m = h t.0 m
 
 module _ (N : Counts) where
   -- a fixed type, or that of a `type` line
@@ -82,14 +75,14 @@ module _ (N : Counts) where
     SegmentsLower t = (i : ℕ) → i < t.count → ResLower (segment_res cells t i)
 
     -- the type and the init of a let
-    abbrev pub LocalLower : Local → Type 0
-    LocalLower (local.Let t e) = TypeBy Declared t × MaybeLower N.nodes e
-    LocalLower local.Not = Unit {0}
+    abbrev pub LocalLower : Option (Option TypeId × Option NodeId) → Type 0
+    LocalLower (Some (t, e)) = TypeBy Declared t × MaybeLower N.nodes e
+    LocalLower None = Unit {0}
 
     -- the tail and the statements of a block
-    abbrev pub BlockLower : Block → Type 0
-    BlockLower (block.Of e t) = MaybeLower N.nodes e × ItemsLower t
-    BlockLower block.Not = Unit {0}
+    abbrev pub BlockLower : Option (Option NodeId × Items) → Type 0
+    BlockLower (Some (e, t)) = MaybeLower N.nodes e × ItemsLower t
+    BlockLower None = Unit {0}
 
     -- what the rule of a node reads of its line
     abbrev pub NodeLower : Node → Type 0
@@ -187,9 +180,9 @@ named_by P cells j (suc k) name h =
     (λ z. named_by P cells (suc j) k name (λ c l. let e : suc j + c ≡ j + suc c = omega arith in rw e (h (suc c) (omega arith))))
 
 -- the first one of two
-or_else_lem : (P : ℕ → Type 0) (d e : MaybeDef) → DefBy P d → DefBy P e → DefBy P (or_else d e)
-or_else_lem P def.Absent e h k = k
-or_else_lem P (def.Of d) e h k = h
+or_else_lem : (P : ℕ → Type 0) (d e : Option DefId) → DefBy P d → DefBy P e → DefBy P (or_else d e)
+or_else_lem P None e h k = k
+or_else_lem P (Some d) e h k = h
 
 -- ── forms ──
 
@@ -261,7 +254,7 @@ module _ (n : Counts) (rows cells : List ℕ) (w : WellFormed n rows cells) wher
   bind_method ts j x name h =
       let g : RowGood (behind n key_bind j) n.fields key_bind (binds_at + j) rows cells = w.binds j h in
       let f : form_in rows (binds_at + j) ≡ 6 = only_form_lem key_bind 6 _ refl g.form g.key in
-      pick_by (DefBy (λ d. d < n.defs)) (binds_for ts x (value_in cells (first_in rows (binds_at + j)))) _ def.Absent
+      pick_by (DefBy (λ d. d < n.defs)) (binds_for ts x (value_in cells (first_in rows (binds_at + j)))) _ None
       (λ z. (named_by (λ d. d < n.defs) cells _ _ name
       (λ c l. (item_field (behind n key_bind j) n.fields key_bind (binds_at + j) 6 rows cells g f 1 NamedDef (omega arith) (λ i a. kind_by (λ t. t ≡ NamedDef) (form_at 6) i (λ z. absurd (omega arith)) (λ z. refl) refl refl) c l).def refl)).1)
       (λ z. tt)

@@ -1,11 +1,9 @@
 -- What each rule adds to the tables that types no other node. Assumes nothing.
 use Rattle.std.proofs.Math.Option.{Option, none, some}
-use Rattle.std.specs.Prelude.{ℕ, eqb, leb}
+use Rattle.std.specs.Prelude.{ℕ, eqb, leb, None, Option as Option·R, Some}
 use Rattle.std.proofs.Common.{rules}
 use Rattle.theory.specs.Rules.{Shape, regular, as_var, head}
 use Rattle.theory.specs.Program.{done, ◌>>=◌}
-use Rattle.nodes.specs.declared.MaybeType.{MaybeType}
-use Rattle.nodes.specs.declared.MaybeType.TheVariants as type
 use Rattle.nodes.specs.declared.BinOp.{BinOp}
 use Rattle.nodes.specs.declared.UnOp.{UnOp}
 use Rattle.nodes.specs.declared.UnOp.TheVariants as un
@@ -15,6 +13,7 @@ use Rattle.record.specs.Steps.{drawn_by, error}
 use Rattle.rules.specs.Rules as rule
 use Rattle.bounds.specs.Adds.{cost, nothing, Adds, adds_within, adds_any, then, nothing_then, then_nothing}
 use Rattle.bounds.specs.Steps.{one_var, one_row, one_error, one_equation_lem, done_adds, cond_adds, set_node_type_adds, set_extra_adds, shape_of_adds, output_adds, mark_var_adds, new_infer_var_adds, array_of_adds, ref_to_adds, error_adds, equation_adds}
+use Rattle.type_table.specs.declared.TypeId.{TypeId}
 
 -- ── equations and errors ──
 
@@ -137,11 +136,11 @@ unfolding rule.local_type
 local_type_adds n x t = nothing_then _ (set_extra_adds n _) (λ u. set_node_type_adds n t)
 
 -- a let without init
-pub let_without_init_adds : (n : ℕ) (t : MaybeType) → Adds one_var (rule.let_without_init n t)
-let_without_init_adds n (type.Of t) = adds_any (local_type_adds n t.0 t.0)
-let_without_init_adds n type.Absent = then_nothing _ (new_infer_var_adds regular (drawn_by n)) (λ v. set_node_type_adds n v)
+pub let_without_init_adds : (n : ℕ) (t : Option·R TypeId) → Adds one_var (rule.let_without_init n t)
+let_without_init_adds n (Some t) = adds_any (local_type_adds n t.0 t.0)
+let_without_init_adds n None = then_nothing _ (new_infer_var_adds regular (drawn_by n)) (λ v. set_node_type_adds n v)
 
 -- a let with init
-pub let_with_init_adds : (n : ℕ) (t : MaybeType) (y : ℕ) → Adds one_equation_lem (rule.let_with_init n t y)
-let_with_init_adds n (type.Of t) y = then_nothing _ (equation_adds n t.0 y _) (λ u. local_type_adds n y t.0)
-let_with_init_adds n type.Absent y = adds_any (local_type_adds n y y)
+pub let_with_init_adds : (n : ℕ) (t : Option·R TypeId) (y : ℕ) → Adds one_equation_lem (rule.let_with_init n t y)
+let_with_init_adds n (Some t) y = then_nothing _ (equation_adds n t.0 y _) (λ u. local_type_adds n y t.0)
+let_with_init_adds n None y = adds_any (local_type_adds n y y)

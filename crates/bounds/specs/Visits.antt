@@ -1,14 +1,11 @@
 -- What each rule adds to the tables that types other nodes, where E, which types a child, adds at most what its weight allows.
 -- A node may add 1 variable, 2 rows, 1 input, 1 error and 1 equation for itself, and whoever types it 1 error and 1 equation more. Assumes nothing.
-use Rattle.std.specs.Prelude.{◌≡◌, List, Bool, true, false, cond, ℕ, suc, ◌+◌, ◌*◌, ◌-◌, ◌<◌, ◌≤◌, eqb}
+use Rattle.std.specs.Prelude.{◌≡◌, List, Bool, true, false, cond, ℕ, suc, ◌+◌, ◌*◌, ◌-◌, ◌<◌, ◌≤◌, eqb, None, Option as Option·R, Some}
 use Rattle.std.proofs.Math.Path.{refl}
 use Rattle.std.proofs.Common.{ap, arith, rules}
 use Rattle.std.proofs.Math.Option.{Option, none, some}
 use Rattle.std.proofs.lemmas.Bool.{eqb-false}
 use Rattle.theory.specs.Program.{◌>>=◌}
-use Rattle.nodes.specs.declared.MaybeType.{MaybeType}
-use Rattle.nodes.specs.declared.MaybeNode.{MaybeNode}
-use Rattle.nodes.specs.declared.MaybeNode.TheVariants as node
 use Rattle.nodes.specs.declared.Items.{Items}
 use Rattle.nodes.specs.declared.BinOp.{BinOp}
 use Rattle.nodes.specs.declared.UnOp.{UnOp}
@@ -22,6 +19,8 @@ use Rattle.bounds.specs.Adds.{Cost, cost, nothing, both, Within, Adds, adds_with
 use Rattle.bounds.specs.Steps.{one_error, one_equation_lem, times, done_adds, sum_from, each_adds}
 use Rattle.bounds.specs.Rules as rules
 use Rattle.bounds.specs.Calls as calls
+use Rattle.type_table.specs.declared.NodeId.{NodeId}
+use Rattle.type_table.specs.declared.TypeId.{TypeId}
 
 -- ── what a weight allows ──
 
@@ -43,12 +42,12 @@ pub record Typed (E : Visit) (y w : ℕ) : Type 0 where
   pub adds : Adds (tree w) (E y)
 
 -- by whether there is one
-abbrev pub TypedBy : Visit → MaybeNode → ℕ → Type 0
-TypedBy E node.Absent w = Unit {0}
-TypedBy E (node.Of e) w = Typed E e.0 w
+abbrev pub TypedBy : Visit → Option·R NodeId → ℕ → Type 0
+TypedBy E None w = Unit {0}
+TypedBy E (Some e) w = Typed E e.0 w
 
 -- the same of a node, if there is one
-pub record TypedMaybe (E : Visit) (e : MaybeNode) (w : ℕ) : Type 0 where
+pub record TypedMaybe (E : Visit) (e : Option·R NodeId) (w : ℕ) : Type 0 where
   pub by : TypedBy E e w
 
 -- the same of each item, by its place
@@ -139,31 +138,31 @@ module _ (b : Body) (E : Visit) where
   -- ── let, block, if, loop ──
 
   -- a let
-  pub local_adds : {u d : ℕ} (n : ℕ) (t : MaybeType) (e : MaybeNode) → TypedMaybe E e u → u ≤ d → Adds (child (suc d)) (typeck_local b E n t e)
+  pub local_adds : {u d : ℕ} (n : ℕ) (t : Option·R TypeId) (e : Option·R NodeId) → TypedMaybe E e u → u ≤ d → Adds (child (suc d)) (typeck_local b E n t e)
   unfolding typeck_local
-  local_adds n t node.Absent T h = adds_within (search rules) (rules.let_without_init_adds n t)
-  local_adds n t (node.Of e) T h = adds_within (search rules) (typed_then _ T.by (λ y. rules.let_with_init_adds n t y))
+  local_adds n t None T h = adds_within (search rules) (rules.let_without_init_adds n t)
+  local_adds n t (Some e) T h = adds_within (search rules) (typed_then _ T.by (λ y. rules.let_with_init_adds n t y))
 
   -- the tail of a block
-  tail_adds : {u : ℕ} (e : MaybeNode) → TypedMaybe E e u → Adds (child u) (tail b E e)
+  tail_adds : {u : ℕ} (e : Option·R NodeId) → TypedMaybe E e u → Adds (child u) (tail b E e)
   unfolding tail
-  tail_adds node.Absent T = adds_any (done_adds _)
-  tail_adds (node.Of e) T = typed_child T.by
+  tail_adds None T = adds_any (done_adds _)
+  tail_adds (Some e) T = typed_child T.by
 
   -- a block
-  pub block_adds : {u : ℕ} (c : ℕ → ℕ) (e : MaybeNode) (t : Items) → TypedMaybe E e u → ((i : ℕ) → i < t.count → Adds (child (c i)) (stmt b E t i))
+  pub block_adds : {u : ℕ} (c : ℕ → ℕ) (e : Option·R NodeId) (t : Items) → TypedMaybe E e u → ((i : ℕ) → i < t.count → Adds (child (c i)) (stmt b E t i))
       → Adds (child (u + sum_from 0 t.count c)) (typeck_block b E e t)
   unfolding typeck_block stmts
   block_adds c e t T S = adds_within (search rules) (then _ (each_adds each_node c 0 t.count _ (λ i l. S i (omega arith))) (λ x. tail_adds e T))
 
   -- what stands after else
-  else_adds : {v : ℕ} (n x : ℕ) (e : MaybeNode) → TypedMaybe E e v → Adds (child v) (typeck_else b E n x e)
+  else_adds : {v : ℕ} (n x : ℕ) (e : Option·R NodeId) → TypedMaybe E e v → Adds (child v) (typeck_else b E n x e)
   unfolding typeck_else
-  else_adds n x node.Absent T = adds_any (done_adds _)
-  else_adds n x (node.Of e) T = typed_then _ T.by (λ y. rules.branches_adds n e.0 x y)
+  else_adds n x None T = adds_any (done_adds _)
+  else_adds n x (Some e) T = typed_then _ T.by (λ y. rules.branches_adds n e.0 x y)
 
   -- an `if`
-  pub if_adds : {a u v d : ℕ} (n k s : ℕ) (e : MaybeNode) → Typed E a u → Adds (child s) (block_at_lem b E k) → TypedMaybe E e v → u + s + v ≤ d
+  pub if_adds : {a u v d : ℕ} (n k s : ℕ) (e : Option·R NodeId) → Typed E a u → Adds (child s) (block_at_lem b E k) → TypedMaybe E e v → u + s + v ≤ d
       → Adds (tree (suc d)) (typeck_expr_if b E n a k e)
   unfolding typeck_expr_if typeck_branches
   if_adds n k s e C K T h =
@@ -176,10 +175,10 @@ module _ (b : Body) (E : Visit) where
   loop_adds k s K h = adds_within (search rules) (then_nothing _ K (λ x. done_adds _))
 
   -- a `return`
-  pub return_adds : {u d : ℕ} (n : ℕ) (e : MaybeNode) → TypedMaybe E e u → u ≤ d → Adds (tree (suc d)) (typeck_return b E n e)
+  pub return_adds : {u d : ℕ} (n : ℕ) (e : Option·R NodeId) → TypedMaybe E e u → u ≤ d → Adds (tree (suc d)) (typeck_return b E n e)
   unfolding typeck_return
-  return_adds n node.Absent T h = adds_within (search rules) (rules.returned_adds n n _)
-  return_adds n (node.Of e) T h = adds_within (search rules) (typed_then _ T.by (λ y. rules.returned_adds n e.0 y))
+  return_adds n None T h = adds_within (search rules) (rules.returned_adds n n _)
+  return_adds n (Some e) T h = adds_within (search rules) (typed_then _ T.by (λ y. rules.returned_adds n e.0 y))
 
   -- ── calls and lambdas ──
 
@@ -241,7 +240,7 @@ module _ (b : Body) (E : Visit) where
         (then _ R.adds (λ x. by_then {a = calls.sought_cost} {b = method_cost_of} _ (calls.method_of_adds b n _ x name) (meth_call_of_adds x) (search rules) sought_within))
 
   -- a lambda
-  pub lambda_adds : {e u s d : ℕ} (n : ℕ) (o : MaybeType) (t : Items) → Typed E e u → t.count ≤ s → u + s ≤ d → Adds (tree (suc d)) (typeck_lambda b E n o e t)
+  pub lambda_adds : {e u s d : ℕ} (n : ℕ) (o : Option·R TypeId) (t : Items) → Typed E e u → t.count ≤ s → u + s ≤ d → Adds (tree (suc d)) (typeck_lambda b E n o e t)
   unfolding typeck_lambda lambda_body
   lambda_adds n o t T k h =
       let l = T.least in

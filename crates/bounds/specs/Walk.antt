@@ -1,5 +1,5 @@
 -- What the typing of a node of a well-formed body adds to the tables: what its weight allows. Assumes nothing.
-use Rattle.std.specs.Prelude.{◌≡◌, List, ℕ, suc, zero, ◌+◌, ◌<◌, ◌≤◌, eqb}
+use Rattle.std.specs.Prelude.{◌≡◌, List, ℕ, suc, zero, ◌+◌, ◌<◌, ◌≤◌, eqb, Option}
 use Rattle.std.proofs.Math.Path.{refl}
 use Rattle.std.proofs.Common.{ap, arith, add-zero, rules}
 use Rattle.std.proofs.Math.Bool.{true}
@@ -10,12 +10,8 @@ use Rattle.forms.specs.Form.{forms, form_at, kind_at}
 use Rattle.refs.specs.declared.Counts.{Counts}
 use Rattle.refs.specs.Refs.{nodes_at, form_in, first_in, tag_in, value_in, refers_to}
 use Rattle.nodes.specs.declared.Node.{Node}
-use Rattle.nodes.specs.declared.MaybeType.{MaybeType}
-use Rattle.nodes.specs.declared.MaybeNode.{MaybeNode}
 use Rattle.nodes.specs.declared.BinOp.{BinOp}
 use Rattle.nodes.specs.declared.UnOp.{UnOp}
-use Rattle.nodes.specs.declared.Block.{Block}
-use Rattle.nodes.specs.declared.Local.{Local}
 use Rattle.nodes.specs.Nodes.{field_in, maybe_node, node_of, node_at, field_of, let_at, block_at}
 use Rattle.record.specs.Steps.{Walk}
 use Rattle.walk.specs.Walk.{Visit, typeck_expr_bin_op, typeck_assign, typeck_op_assign, typeck_expr_un_op, typeck_expr_field, typeck_expr_list, typeck_expr_index, typeck_stmt, stmt, typeck_block, block_of, block_at_lem, typeck_expr_if, typeck_loop, typeck_call, typeck_expr_meth_call, typeck_return, typeck_lambda, rule_of, typeck_rule, typeck_expr}
@@ -29,6 +25,9 @@ use Rattle.bounds.specs.Weights.{pick_by, is_node, is_optional, kind_by, tree_si
 use Rattle.bounds.specs.Calls as calls
 use Rattle.bounds.specs.Visits.{tree, child, Typed, TypedMaybe, TypedItems, typed_child}
 use Rattle.bounds.specs.Visits as visits
+use Rattle.nodes.specs.declared.Items.{Items}
+use Rattle.type_table.specs.declared.NodeId.{NodeId}
+use Rattle.type_table.specs.declared.TypeId.{TypeId}
 
 -- a program adds at most what the weight of the node x allows
 abbrev Allowed : List ℕ → List ℕ → ℕ → Walk ℕ → Type 0
@@ -52,7 +51,7 @@ module _ (n : Counts) (rows cells : List ℕ) (w : WellFormed n rows cells) (E :
     maybe_typed : (i j : ℕ) → i < (form_at f).4 → is_optional (kind_at (form_at f) i) ≡ true → first_in rows (nodes_at + x) + i ≡ j → TypedMaybe E (maybe_node (field_in cells j)) (part_size rows cells x i)
     unfolding maybe_node
     maybe_typed i j l k q =
-        pick_by (λ (m : MaybeNode). TypedMaybe E m (part_size rows cells x i)) (eqb (tag_in cells j) 0) _ _
+        pick_by (λ (m : Option NodeId). TypedMaybe E m (part_size rows cells x i)) (eqb (tag_in cells j) 0) _ _
         (λ z. record { by = tt })
         (λ z. record { by = part_typed (optional_part n rows cells w x h f e i (value_in cells j) l k (rw q z) (ap (value_in cells) q)) })
 
@@ -66,7 +65,7 @@ module _ (n : Counts) (rows cells : List ℕ) (w : WellFormed n rows cells) (E :
   stmt_adds : (y : ℕ) → y < n.nodes → Adds (child (tree_size rows cells y)) (typeck_stmt (body_with n rows cells) E y (let_at rows cells y))
   unfolding typeck_stmt let_at field_of form_at forms kind_at is_optional refers_to sum_to
   stmt_adds y h =
-      pick_by (λ (l : Local). Adds (child (tree_size rows cells y)) (typeck_stmt (body_with n rows cells) E y l)) (eqb (form_in rows (nodes_at + y)) 25) _ _
+      pick_by (λ (l : Option (Option TypeId × Option NodeId)). Adds (child (tree_size rows cells y)) (typeck_stmt (body_with n rows cells) E y l)) (eqb (form_in rows (nodes_at + y)) 25) _ _
       (λ e. let f : form_in rows (nodes_at + y) ≡ 25 = eqb-true _ 25 e in
       rw (whole n rows cells w y h)
       (visits.local_adds (body_with n rows cells) E y _ _ (maybe_typed y h 25 f 1 _ (omega arith) refl refl) (omega (arith, front n rows cells w y h 25 f 2 (omega arith)))))
@@ -88,7 +87,7 @@ module _ (n : Counts) (rows cells : List ℕ) (w : WellFormed n rows cells) (E :
     unfolding block_at_lem block_at field_of
     block_at_adds =
         let s = whole n rows cells w x h in
-        pick_by (λ (k : Block). Adds (child (tree_size rows cells x)) (block_of (body_with n rows cells) E k)) (eqb (form_in rows (nodes_at + x)) 24) _ _
+        pick_by (λ (k : Option (Option NodeId × Items)). Adds (child (tree_size rows cells x)) (block_of (body_with n rows cells) E k)) (eqb (form_in rows (nodes_at + x)) 24) _ _
         (λ e. adds_within (search rules) (block_adds (eqb-true _ 24 e) _ refl))
         (λ z. adds_any (done_adds _))
 
@@ -196,7 +195,7 @@ module _ (n : Counts) (rows cells : List ℕ) (w : WellFormed n rows cells) (E :
         visits.return_adds (body_with n rows cells) E x _ (maybe_typed x h 23 e 0 _ (omega arith) refl (add-zero _)) (omega (arith, front n rows cells w x h 23 e 1 (omega arith)))
 
     -- lambda,OUT|-,BODY,P..
-    lambda_adds : form_in rows (nodes_at + x) ≡ 27 → (o : MaybeType)
+    lambda_adds : form_in rows (nodes_at + x) ≡ 27 → (o : Option TypeId)
         → Allowed rows cells x (typeck_lambda (body_with n rows cells) E x o (child_in rows cells (nodes_at + x) 1) (items_at rows x 2))
     unfolding form_at forms kind_at is_node refers_to sum_to
     lambda_adds e o =

@@ -1,5 +1,5 @@
 -- The walk over a well-formed body meets no default: with any other answers in their place each expression is typed alike. Assumes nothing.
-use Rattle.std.specs.Prelude.{◌≡◌, Bool, false, cond, not, eqb, length, get_or, set}
+use Rattle.std.specs.Prelude.{◌≡◌, Bool, false, cond, not, eqb, length, get_or, set, None, Option as Option·R, Some}
 use Rattle.std.proofs.Math.Path.{refl, ap}
 use Rattle.std.proofs.Common.{sym, ◌∙◌, arith, add-zero, eqb-true, get_or-set_same}
 use mathlib.Core.List.{List, [], ◌∷◌, map}
@@ -15,14 +15,8 @@ use Rattle.type_table.specs.Memory.{pick}
 use Rattle.forms.specs.Form.{forms, form_at, kind_at, key_node, Block as a_Block, Param as a-param, TypedParam as a-typed-param, Stmt as a-stmt, Body as a_Body}
 use Rattle.refs.specs.declared.Counts.{Counts}
 use Rattle.refs.specs.Refs.{nodes_at, form_block, form_param, form_in, first_in, levels_in, tag_in, value_in, refers_to, is_expr, stands}
-use Rattle.nodes.specs.declared.MaybeType.{MaybeType}
-use Rattle.nodes.specs.declared.MaybeType.TheVariants as type
-use Rattle.nodes.specs.declared.MaybeNode.{MaybeNode}
-use Rattle.nodes.specs.declared.MaybeNode.TheVariants as node
 use Rattle.nodes.specs.declared.Items.{Items}
 use Rattle.nodes.specs.declared.Callee.{Callee}
-use Rattle.nodes.specs.declared.Local.{Local}
-use Rattle.nodes.specs.declared.Block.{Block}
 use Rattle.nodes.specs.declared.Node.{Node}
 use Rattle.nodes.specs.Nodes.{Body, field_in, item, items_of, maybe_node, node_of, node_at, field_of, declared_at, let_at, block_at, is_some}
 use Rattle.record.specs.declared.Span.{Span}
@@ -44,6 +38,8 @@ use Rattle.bounds.specs.Calls as calls
 use Rattle.bounds.specs.Refers.{numbers_all}
 use Rattle.bounds.specs.Alike.{Same, then_same, bind_same, Raws, raws_kept, Alike, leaf, leaf_by, both_same, bind_alike, each_alike}
 use Rattle.bounds.specs.Defaults.{Defaults, or_other, other_block, other_if, other_loop, other_input, other_lambda, other_rule}
+use Rattle.type_table.specs.declared.NodeId.{NodeId}
+use Rattle.type_table.specs.declared.TypeId.{TypeId}
 
 -- ── the params of a lambda have a RAW ──
 
@@ -52,10 +48,10 @@ set_typed : (l : List (Option ℕ)) (n t : ℕ) → n < length l → is_some (ge
 set_typed l n t h = rw (get_or-set_same l n (some t) none h)
 
 -- a param is typed
-param_typed : (n : ℕ) (t : MaybeType) (s : State) → n < length s.own.raw → is_some (get_or (run (rule.lambda_param n t) s).1.own.raw n none) ≡ true
+param_typed : (n : ℕ) (t : Option·R TypeId) (s : State) → n < length s.own.raw → is_some (get_or (run (rule.lambda_param n t) s).1.own.raw n none) ≡ true
 unfolding run ◌>>=◌ set_node_type change new_infer_var drawn written typed
-param_typed n (type.Of t) s h = set_typed s.own.raw n t.0 h
-param_typed n type.Absent s h = set_typed s.own.raw n (length s.rows) h
+param_typed n (Some t) s h = set_typed s.own.raw n t.0 h
+param_typed n None s h = set_typed s.own.raw n (length s.rows) h
 
 module _ (rows cells : List ℕ) (t : Items) where
   -- a param of a lambda
@@ -93,12 +89,12 @@ module _ (rows cells : List ℕ) (t : Items) where
 -- ── the rules, where E and F type each child of a node alike ──
 
 -- by whether there is one
-abbrev AlikeBy : ℕ → Visit → Visit → MaybeNode → Type 0
-AlikeBy m E F node.Absent = Unit {0}
-AlikeBy m E F (node.Of e) = Alike m (E e.0) (F e.0)
+abbrev AlikeBy : ℕ → Visit → Visit → Option·R NodeId → Type 0
+AlikeBy m E F None = Unit {0}
+AlikeBy m E F (Some e) = Alike m (E e.0) (F e.0)
 
 -- E and F type a node, if there is one, alike
-record AlikeMaybe (m : ℕ) (E F : Visit) (e : MaybeNode) : Type 0 where
+record AlikeMaybe (m : ℕ) (E F : Visit) (e : Option·R NodeId) : Type 0 where
   by : AlikeBy m E F e
 
 -- and so each item
@@ -133,33 +129,33 @@ module _ {m : ℕ} (b : Body) (E F : Visit) where
   index_of_alike n T (some e) = bind_alike T (λ y. leaf (rules.index_adds n e y))
 
   -- a let
-  local_alike : (n : ℕ) (t : MaybeType) (e : MaybeNode) → AlikeMaybe m E F e → Alike m (typeck_local b E n t e) (typeck_local b F n t e)
+  local_alike : (n : ℕ) (t : Option·R TypeId) (e : Option·R NodeId) → AlikeMaybe m E F e → Alike m (typeck_local b E n t e) (typeck_local b F n t e)
   unfolding typeck_local
-  local_alike n t node.Absent T = leaf (rules.let_without_init_adds n t)
-  local_alike n t (node.Of e) T = bind_alike T.by (λ y. leaf (rules.let_with_init_adds n t y))
+  local_alike n t None T = leaf (rules.let_without_init_adds n t)
+  local_alike n t (Some e) T = bind_alike T.by (λ y. leaf (rules.let_with_init_adds n t y))
 
   -- the tail of a block
-  tail_alike : (e : MaybeNode) → AlikeMaybe m E F e → Alike m (tail b E e) (tail b F e)
+  tail_alike : (e : Option·R NodeId) → AlikeMaybe m E F e → Alike m (tail b E e) (tail b F e)
   unfolding tail
-  tail_alike node.Absent T = leaf (done_adds _)
-  tail_alike (node.Of e) T = T.by
+  tail_alike None T = leaf (done_adds _)
+  tail_alike (Some e) T = T.by
 
   -- a block
-  block_alike : (e : MaybeNode) (t : Items) → AlikeMaybe m E F e → ((i : ℕ) → i < t.count → Alike m (stmt b E t i) (stmt b F t i)) → Alike m (typeck_block b E e t) (typeck_block b F e t)
+  block_alike : (e : Option·R NodeId) (t : Items) → AlikeMaybe m E F e → ((i : ℕ) → i < t.count → Alike m (stmt b E t i) (stmt b F t i)) → Alike m (typeck_block b E e t) (typeck_block b F e t)
   unfolding typeck_block stmts
   block_alike e t T S = bind_alike (each_alike 0 t.count _ _ (λ i l. S i (omega arith))) (λ x. tail_alike e T)
 
   -- what stands after else
-  else_alike : (n x : ℕ) (e : MaybeNode) → AlikeMaybe m E F e → Alike m (typeck_else b E n x e) (typeck_else b F n x e)
+  else_alike : (n x : ℕ) (e : Option·R NodeId) → AlikeMaybe m E F e → Alike m (typeck_else b E n x e) (typeck_else b F n x e)
   unfolding typeck_else
-  else_alike n x node.Absent T = leaf (done_adds _)
-  else_alike n x (node.Of e) T = bind_alike T.by (λ y. leaf (rules.branches_adds n e.0 x y))
+  else_alike n x None T = leaf (done_adds _)
+  else_alike n x (Some e) T = bind_alike T.by (λ y. leaf (rules.branches_adds n e.0 x y))
 
   -- a `return`
-  return_alike : (n : ℕ) (e : MaybeNode) → AlikeMaybe m E F e → Alike m (typeck_return b E n e) (typeck_return b F n e)
+  return_alike : (n : ℕ) (e : Option·R NodeId) → AlikeMaybe m E F e → Alike m (typeck_return b E n e) (typeck_return b F n e)
   unfolding typeck_return
-  return_alike n node.Absent T = leaf (rules.returned_adds n n _)
-  return_alike n (node.Of e) T = bind_alike T.by (λ y. leaf (rules.returned_adds n e.0 y))
+  return_alike n None T = leaf (rules.returned_adds n n _)
+  return_alike n (Some e) T = bind_alike T.by (λ y. leaf (rules.returned_adds n e.0 y))
 
   module _ (n : ℕ) (t : Items) (T : AlikeItems m E F b.cells t) where
     -- the arguments
@@ -214,7 +210,7 @@ module _ {m : ℕ} (b : Body) where
 
 module _ {m : ℕ} (D : Defaults) (b : Body) (E F : Visit) where
   -- an `if`
-  if_alike : {a : ℕ} (n k : ℕ) (e : MaybeNode) → Alike m (E a) (F a) → Alike m (block_at_lem b E k) (other_block D b F k (block_at b.rows b.cells k)) → AlikeMaybe m E F e
+  if_alike : {a : ℕ} (n k : ℕ) (e : Option·R NodeId) → Alike m (E a) (F a) → Alike m (block_at_lem b E k) (other_block D b F k (block_at b.rows b.cells k)) → AlikeMaybe m E F e
       → Alike m (typeck_expr_if b E n a k e) (other_if D b F n a k e)
   unfolding typeck_expr_if typeck_branches other_if
   if_alike n k e C K T = bind_alike C (λ x. bind_alike (leaf (rules.condition_adds _ x)) (λ z. bind_alike K (λ y. else_alike b E F n y e T)))
@@ -225,7 +221,7 @@ module _ {m : ℕ} (D : Defaults) (b : Body) (E F : Visit) where
   loop_alike k K = bind_alike K (λ x. leaf (done_adds _))
 
   -- a lambda
-  lambda_alike : {e : ℕ} (n : ℕ) (o : MaybeType) (t : Items) → Alike m (E e) (F e) → ((i : ℕ) → i < t.count → item b.cells t i < m) → Alike m (typeck_lambda b E n o e t) (other_lambda D b F n o e t)
+  lambda_alike : {e : ℕ} (n : ℕ) (o : Option·R TypeId) (t : Items) → Alike m (E e) (F e) → ((i : ℕ) → i < t.count → item b.cells t i < m) → Alike m (typeck_lambda b E n o e t) (other_lambda D b F n o e t)
   unfolding typeck_lambda lambda_body rule.lambda rule.lambda_params other_lambda
   lambda_alike {e} n o t T below = record {
     same = λ ps.
@@ -305,7 +301,7 @@ module _ (n : Counts) (rows cells : List ℕ) (w : WellFormed n rows cells) (D :
     maybe_alike : (i j : ℕ) → i < (form_at f).4 → is_optional (kind_at (form_at f) i) ≡ true → is_plain (kind_at (form_at f) i) ≡ true → first_in rows (nodes_at + x) + i ≡ j → AlikeMaybe n.nodes E F (maybe_node (field_in cells j))
     unfolding maybe_node
     maybe_alike i j b t p q =
-        pick_by (λ (c : MaybeNode). AlikeMaybe n.nodes E F c) (eqb (tag_in cells j) 0) _ _
+        pick_by (λ (c : Option·R NodeId). AlikeMaybe n.nodes E F c) (eqb (tag_in cells j) 0) _ _
         (λ z. record { by = tt })
         (λ z. record { by = part_alike (optional_part n rows cells w x h f e i (value_in cells j) b t (rw q z) (ap (value_in cells) q)) p })
 
@@ -318,7 +314,7 @@ module _ (n : Counts) (rows cells : List ℕ) (w : WellFormed n rows cells) (D :
       → Alike n.nodes (typeck_stmt (body_with n rows cells) E y (let_at rows cells y)) (typeck_stmt (body_with n rows cells) F y (let_at rows cells y))
   unfolding let_at field_of form_at forms kind_at is_optional is_plain refers_to typeck_stmt
   stmt_alike y h l q =
-      pick_by (λ (c : Local). Alike n.nodes (typeck_stmt (body_with n rows cells) E y c) (typeck_stmt (body_with n rows cells) F y c)) (eqb (form_in rows (nodes_at + y)) 25) _ _
+      pick_by (λ (c : Option·R (Option·R TypeId × Option·R NodeId)). Alike n.nodes (typeck_stmt (body_with n rows cells) E y c) (typeck_stmt (body_with n rows cells) F y c)) (eqb (form_in rows (nodes_at + y)) 25) _ _
       (λ e. local_alike (body_with n rows cells) E F y _ _ (maybe_alike y h (omega arith) 25 (eqb-true _ 25 e) 1 _ (omega arith) refl refl refl))
       (λ z. bind_alike (visit y h l (stmt_expr _ q z)) (λ t. leaf (done_adds tt)))
 
@@ -337,7 +333,7 @@ module _ (n : Counts) (rows cells : List ℕ) (w : WellFormed n rows cells) (D :
     block_at_alike : form_in rows (nodes_at + x) ≡ 24 → Alike n.nodes (block_at_lem (body_with n rows cells) E x) (other_block D (body_with n rows cells) F x (block_at rows cells x))
     unfolding block_at_lem block_at field_of
     block_at_alike e =
-        pick_by (λ (c : Block). Alike n.nodes (block_of (body_with n rows cells) E c) (other_block D (body_with n rows cells) F x c)) (eqb (form_in rows (nodes_at + x)) 24) _ _
+        pick_by (λ (c : Option·R (Option·R NodeId × Items)). Alike n.nodes (block_of (body_with n rows cells) E c) (other_block D (body_with n rows cells) F x c)) (eqb (form_in rows (nodes_at + x)) 24) _ _
         (λ q. node_block_alike e _ refl)
         (λ z. absurd (eqb-false _ 24 z e))
 

@@ -1,4 +1,5 @@
 -- What each return of the functions of `check` shows.
+use Rattle.std.specs.Prelude.{Err, Ok, Result}
 use mathlib.Core.Path.{◌≡◌, refl, sym, ap, subst, ◌∙◌}
 use mathlib.Core.Logic.{⊎_elim}
 use mathlib.Core.List.{List, [], ◌∷◌, ◌++◌, append-nil}
@@ -9,7 +10,6 @@ use lib.ListN.{length, take, drop, length-append, length-replicate, replicate}
 use lib.Seq.{length_front, sets, sets-eq, drop-length, drop_at, take_at, length-take-le}
 use borrow.Author.Tests.{lt-ltb, le-ltb}
 use Rattle.theory.specs.Rules.{Shape, base, var, arr, ref, fn, fun, lam, err, div}
-use Rattle.type_table.specs.declared.NodeId.{NodeId}
 use Rattle.type_table.specs.Sound.{state_of}
 use Rattle.type_table.specs.Tables.{length-rows, length_kinds}
 use Rattle.refs.specs.declared.Counts.{Counts}
@@ -21,8 +21,6 @@ use Rattle.lex.specs.Text.{parts_from}
 use Rattle.nodes.specs.Nodes.{fn_line}
 use Rattle.forms.specs.declared.Fault.{Fault}
 use Rattle.record.specs.declared.Record.{Record}
-use Rattle.record.specs.declared.Ruled.{Ruled}
-use Rattle.record.specs.declared.Ruled.TheVariants as ruled
 use Rattle.record.specs.Steps.{State}
 use Rattle.record.specs.Encodes.{Encodes, Fits, input_count, input_total}
 use Rattle.record.specs.Runs.{rows_are}
@@ -47,6 +45,7 @@ use Rattle.answers.specs.Lengths.{Long, not_short}
 use Rattle.answers.specs.Parts.{counted, Filled, HandedAs, HandedBack, HandsErrors}
 use Rattle.checker.specs.Parts.{ReadAs, WalkRead, WalkedAs, WalkedIn, FileAs, CellsWalked, FileWalked, TablesChecked, record_of, EndedAs, WalkChecked}
 use Rattle.checker.specs.declared.Ended.{Ended as Ended-as-C}
+use Rattle.record.specs.declared.Refusal.{Refusal}
 
 -- ── a body that was typed ──
 
@@ -105,14 +104,14 @@ module _ (n : Counts) (rows cells : List ℕ) (w : WellFormed n rows cells) (l :
 
 -- ── reading and typing ──
 
-module _ (n : Counts) (rows cells m m' : List ℕ) (r : Ruled) (b : BodyTyped m m' r n rows cells) where
+module _ (n : Counts) (rows cells m m' : List ℕ) (r : Result Record Refusal) (b : BodyTyped m m' r n rows cells) where
   -- a body that ends without a refusal
-  pub walk_done : (c : Record) → r ≡ ruled.Done c → WalkRead n rows cells m (walked.Typed n c) m'
-  walk_done c e = record { by = λ w large. (refl, typed_in_memory n rows cells w m m' (ruled.Done c) large (rw e at b)) }
+  pub walk_done : (c : Record) → r ≡ Ok c → WalkRead n rows cells m (walked.Typed n c) m'
+  walk_done c e = record { by = λ w large. (refl, typed_in_memory n rows cells w m m' (Ok c) large (rw e at b)) }
 
   -- a body that is refused
-  pub walk_refused : (c : Record) (k : ℕ) (p : NodeId) → r ≡ ruled.Refused k c p → WalkRead n rows cells m (walked.Declined k c p) m'
-  walk_refused c k p e = record { by = λ w large. typed_in_memory n rows cells w m m' (ruled.Refused k c p) large (rw e at b) }
+  pub walk_refused : (q : Refusal) → r ≡ Err q → WalkRead n rows cells m (walked.Declined q.number q.record q.node) m'
+  walk_refused q e = record { by = λ w large. typed_in_memory n rows cells w m m' (Err q) large (rw e at b) }
 
 -- of tables that are long enough the reader takes the lengths alone
 reading_lengths : (s rows cells rows' cells' : List ℕ) → length s ≤ most_bytes → rows_length ≤ length rows → cells_length ≤ length cells → length rows' ≡ length rows → length cells' ≡ length cells
@@ -140,7 +139,7 @@ reading_is s rows cells h p q = reading_zeros s rows cells rows_length cells_len
 module _ (s rows cells m : List ℕ) (a : Reading) (rows' cells' : List ℕ) (e : body.held a rows' cells' ≡ body_of s rows cells) where
   -- a body that was read, by what typing gave
   walk_by : (n : Counts) → body.held (reading.Body n) rows' cells' ≡ reading_of s → (w : Walked) (m' : List ℕ) → ReadAs n rows' cells' w m' → WalkedAs s w rows' cells' m'
-  walk_by n g (walked.Typed k c) m' t = (ap (λ (i : Counts). body.held (reading.Body i) rows' cells') t.0 ∙ g, subst (λ (i : Counts). TypedBy m' (ruled.Done c) i rows' cells') (sym t.0) t.1)
+  walk_by n g (walked.Typed k c) m' t = (ap (λ (i : Counts). body.held (reading.Body i) rows' cells') t.0 ∙ g, subst (λ (i : Counts). TypedBy m' (Ok c) i rows' cells') (sym t.0) t.1)
   walk_by n g (walked.Declined k c p) m' t = (n, g, t)
   walk_by n g (walked.Refused x k) m' t = absurd t
   walk_by n g walked.Unread m' t = absurd t
@@ -217,10 +216,10 @@ cells_by : (s rows cells z a b m : List ℕ) (n : ℕ) → n ≤ length cells �
 cells_by s rows cells z a b m n q f y (walked.Typed i d) g = (
   ap (λ (o : Read). o.answer) (sym g.0),
   (ap (λ (o : Read). o.rows) g.0, whole_padded cells z b n q f y ∙ ap (λ (o : Read). padded (length cells) o.cells) g.0),
-  subst (λ (o : Read). TypedBy m (ruled.Done d) i o.rows o.cells) g.0 g.1,
+  subst (λ (o : Read). TypedBy m (Ok d) i o.rows o.cells) g.0 g.1,
 )
 cells_by s rows cells z a b m n q f y (walked.Declined k d i) g =
-    (g.0, ap (λ (o : Read). o.answer) (sym g.1), subst (λ (o : Read). TypedBy m (ruled.Refused k d i) g.0 o.rows o.cells) g.1 g.2)
+    (g.0, ap (λ (o : Read). o.answer) (sym g.1), subst (λ (o : Read). TypedBy m (Err (record { number = k; «record» = d; node = i })) g.0 o.rows o.cells) g.1 g.2)
 cells_by s rows cells z a b m n q f y (walked.Refused o k) g = g
 cells_by s rows cells z a b m n q f y walked.Unread g = absurd g
 

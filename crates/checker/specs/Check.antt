@@ -1,5 +1,5 @@
 -- What `check` answers and leaves in the lent tables, on every input bytes. Definitions alone.
-use Rattle.std.specs.Prelude.{List, cond, ℕ, ◌-◌, length, replicate, ltb}
+use Rattle.std.specs.Prelude.{List, cond, ℕ, length, replicate, ltb}
 use Rattle.std.proofs.Math.Option.{Option, none, some}
 use Rattle.theory.specs.Rules.{Pair}
 use Rattle.theory.specs.Program.{run}

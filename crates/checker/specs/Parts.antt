@@ -1,12 +1,11 @@
 -- What the functions below `check` promise. Definitions alone.
-use Rattle.std.specs.Prelude.{◌≡◌, List, ℕ, ◌≤◌, length}
+use Rattle.std.specs.Prelude.{◌≡◌, List, ℕ, ◌≤◌, length, Err, Ok}
 use Rattle.std.proofs.Math.Option.{none, some}
 use Rattle.theory.specs.Program.{run}
 use Rattle.refs.specs.declared.Counts.{Counts}
 use Rattle.body.specs.declared.Answer.TheVariants as reading
 use Rattle.body.specs.Body.{most_bytes, rows_length, cells_length}
 use Rattle.body.specs.Body as body
-use Rattle.record.specs.declared.Ruled.TheVariants as ruled
 use Rattle.record.specs.Own.{log_at}
 use Rattle.resolve.specs.Resolve.{type_body}
 use Rattle.resolve.specs.Body.{first_state, last_state, TypedBy}
@@ -28,8 +27,8 @@ Declining n rows cells k p = ((run (type_body n rows cells) (first_state rows ce
 
 -- by what typing gave: of a body of these counts and tables, in the memory m
 abbrev pub ReadAs : Counts → List ℕ → List ℕ → Walked → List ℕ → Type 0
-ReadAs n rows cells (walked.Typed k c) m = (k ≡ n) × TypedBy m (ruled.Done c) n rows cells
-ReadAs n rows cells (walked.Declined k c p) m = TypedBy m (ruled.Refused k c p) n rows cells
+ReadAs n rows cells (walked.Typed k c) m = (k ≡ n) × TypedBy m (Ok c) n rows cells
+ReadAs n rows cells (walked.Declined k c p) m = TypedBy m (Err (record { number = k; «record» = c; node = p })) n rows cells
 ReadAs n rows cells (walked.Refused x k) m = ⊥
 ReadAs n rows cells walked.Unread m = ⊥
 
@@ -39,8 +38,8 @@ pub record WalkRead (n : Counts) (rows cells m : List ℕ) (w : Walked) (m' : Li
 
 -- by what reading and typing gave: of the file s, in these tables and the memory m
 abbrev pub WalkedAs : List ℕ → Walked → List ℕ → List ℕ → List ℕ → Type 0
-WalkedAs s (walked.Typed n c) rows cells m = (body.held (reading.Body n) rows cells ≡ reading_of s) × TypedBy m (ruled.Done c) n rows cells
-WalkedAs s (walked.Declined k c p) rows cells m = (n : Counts) × (body.held (reading.Body n) rows cells ≡ reading_of s) × TypedBy m (ruled.Refused k c p) n rows cells
+WalkedAs s (walked.Typed n c) rows cells m = (body.held (reading.Body n) rows cells ≡ reading_of s) × TypedBy m (Ok c) n rows cells
+WalkedAs s (walked.Declined k c p) rows cells m = (n : Counts) × (body.held (reading.Body n) rows cells ≡ reading_of s) × TypedBy m (Err (record { number = k; «record» = c; node = p })) n rows cells
 WalkedAs s (walked.Refused x k) rows cells m = (reading_of s).answer ≡ reading.Refused x k
 WalkedAs s walked.Unread rows cells m = ⊥
 
@@ -50,8 +49,8 @@ pub record WalkedIn (s rows cells m : List ℕ) (w : Walked) (rows' cells' m' : 
 
 -- by what reading and typing gave: of the file s, in the memory m, the tables of declarations being as said
 abbrev pub FileAs : List ℕ → Walked → Type 0 → List ℕ → Type 0
-FileAs s (walked.Typed n c) T m = ((reading_of s).answer ≡ reading.Body n) × T × TypedBy m (ruled.Done c) n (reading_of s).rows (reading_of s).cells
-FileAs s (walked.Declined x c p) T m = (n : Counts) × ((reading_of s).answer ≡ reading.Body n) × TypedBy m (ruled.Refused x c p) n (reading_of s).rows (reading_of s).cells
+FileAs s (walked.Typed n c) T m = ((reading_of s).answer ≡ reading.Body n) × T × TypedBy m (Ok c) n (reading_of s).rows (reading_of s).cells
+FileAs s (walked.Declined x c p) T m = (n : Counts) × ((reading_of s).answer ≡ reading.Body n) × TypedBy m (Err (record { number = x; «record» = c; node = p })) n (reading_of s).rows (reading_of s).cells
 FileAs s (walked.Refused x l) T m = (reading_of s).answer ≡ reading.Refused x l
 FileAs s walked.Unread T m = ⊥
 
@@ -84,11 +83,11 @@ record_of walked.Unread = no_record
 
 -- by the answer to the file s: the memory m and the record c hold the state in which the walk ended, on 0 and on 10 to 13
 abbrev pub EndedAs : List ℕ → Answer → Record → List ℕ → Type 0
-EndedAs s (answer.Checked t) c m = (n : Counts) × ((reading_of s).answer ≡ reading.Body n) × TypedBy m (ruled.Done c) n (reading_of s).rows (reading_of s).cells
+EndedAs s (answer.Checked t) c m = (n : Counts) × ((reading_of s).answer ≡ reading.Body n) × TypedBy m (Ok c) n (reading_of s).rows (reading_of s).cells
 EndedAs s answer.TooLong c m = Unit {0}
 EndedAs s answer.ShortTable c m = Unit {0}
 EndedAs s (answer.Refused x l) c m = Unit {0}
-EndedAs s (answer.Declined k p) c m = (n : Counts) × ((reading_of s).answer ≡ reading.Body n) × TypedBy m (ruled.Refused k c p) n (reading_of s).rows (reading_of s).cells
+EndedAs s (answer.Declined k p) c m = (n : Counts) × ((reading_of s).answer ≡ reading.Body n) × TypedBy m (Err (record { number = k; «record» = c; node = p })) n (reading_of s).rows (reading_of s).cells
 
 -- a file is checked but for its errors, and its walk ended with this record
 pub record WalkChecked (s : List ℕ) (n : ℕ) (l : Lent) (r : Ended) (u : Lent) : Type 0 where

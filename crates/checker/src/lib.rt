@@ -11,7 +11,7 @@ ghost use Rattle.checker.specs.Parts.{WalkRead, WalkedIn, CellsWalked, FileWalke
 use answers::{Answer, Walked};
 use body::Answer as Reading;
 use errors::ErrorRow;
-use record::{Record, Ruled};
+use record::Record;
 use refs::Counts;
 use type_table::TypeId;
 
@@ -20,8 +20,8 @@ fn walk_read(rows: &[u16], cells: &[u16], n: Counts, memory: &mut [u16]) -> Walk
     ensures { WalkRead n rows.now cells.now memory.old result memory.new }
 {
     match resolve::type_body(rows, cells, memory, n) {
-        Ruled::Done(c) => Walked::Typed(n, c),
-        Ruled::Refused(k, c, p) => Walked::Declined(k as u16, c, p),
+        Ok(c) => Walked::Typed(n, c),
+        Err(e) => Walked::Declined(u16::from(e.number), e.record, e.node),
     }
 }
 
@@ -31,8 +31,7 @@ fn read_and_type(s: &[u8], rows: &mut [u16], cells: &mut [u16], memory: &mut [u1
 {
     match body::read_body(s, rows, cells) {
         Reading::Body(n) => walk_read(rows, cells, n, memory),
-        Reading::TooLong => Walked::Unread,
-        Reading::ShortTable => Walked::Unread,
+        Reading::TooLong | Reading::ShortTable => Walked::Unread,
         Reading::Refused(f, l) => Walked::Refused(f, l),
     }
 }
@@ -103,10 +102,8 @@ fn record_of(w: Walked) -> Record
     ensures { result ≡ record_of w }
 {
     match w {
-        Walked::Typed(n, c) => c,
-        Walked::Declined(k, c, p) => c,
-        Walked::Refused(f, l) => no_record(),
-        Walked::Unread => no_record(),
+        Walked::Typed(_, c) | Walked::Declined(_, c, _) => c,
+        Walked::Refused(..) | Walked::Unread => no_record(),
     }
 }
 
@@ -124,26 +121,23 @@ pub fn check_walk(
 ) -> Ended
     ensures { WalkChecked s.now errors (lent rows.old cells.old nodes.old vars.old types.old [] log.old memory.old) result (lent rows.new cells.new nodes.new vars.new types.new [] log.new memory.new) }
 {
-    if body::MOST_BYTES < s.len() {
-        let c = no_record();
+    let most = body::MOST_BYTES;
+    if s.len() > most {
         return Ended {
             answer: Answer::TooLong,
-            record: c,
+            record: no_record(),
         };
     }
     if answers::too_short(rows, cells, nodes, vars, types, errors, memory) {
-        let c = no_record();
         return Ended {
             answer: Answer::ShortTable,
-            record: c,
+            record: no_record(),
         };
     }
     let w = walk_file(s, rows, cells, memory);
-    let c = record_of(w);
-    let a = answers::hand_back(w, rows, cells, nodes, vars, types, log, memory);
     Ended {
-        answer: a,
-        record: c,
+        answer: answers::hand_back(w, rows, cells, nodes, vars, types, log, memory),
+        record: record_of(w),
     }
 }
 
@@ -161,8 +155,7 @@ pub fn check_tables(
 ) -> Answer
     ensures { TablesChecked s.now errors (lent rows.old cells.old nodes.old vars.old types.old [] log.old memory.old) result (lent rows.new cells.new nodes.new vars.new types.new [] log.new memory.new) }
 {
-    let e = check_walk(s, rows, cells, nodes, vars, types, errors, log, memory);
-    e.answer
+    check_walk(s, rows, cells, nodes, vars, types, errors, log, memory).answer
 }
 
 // Checks a file.

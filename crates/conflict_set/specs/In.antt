@@ -1,5 +1,5 @@
 -- The equations in the memory of a walk, and what the functions of this crate promise of it. Definitions alone. Only bindings and marks change: `Kept`.
-use Rattle.std.specs.Prelude.{◌≡◌, ◌≢◌, List, [], ◌∷◌, map, Bool, true, false, ◌&&◌, ◌||◌, ℕ, suc, zero, ◌+◌, ◌-◌, ◌*◌, ◌/◌, ◌%◌, ◌≤◌, ◌<◌, length, set, eqb}
+use Rattle.std.specs.Prelude.{◌≡◌, ◌≢◌, List, [], ◌∷◌, map, Bool, true, false, ◌&&◌, ◌||◌, ℕ, suc, zero, ◌+◌, ◌-◌, ◌*◌, ◌/◌, ◌%◌, ◌≤◌, ◌<◌, length, set, eqb, None, Option as Option·R, Some}
 use Rattle.std.proofs.Math.Option.{Option, none, some}
 use Rattle.theory.specs.Rules.{Shape, Pair, Res, row}
 use Rattle.theory.specs.Program.{clip}
@@ -13,8 +13,6 @@ use Rattle.unify.specs.declared.Answer.TheVariants.{Success, Mismatch, Refused12
 use Rattle.conflict_theory.specs.Test.{is_success, unified}
 use Rattle.conflict_theory.specs.Code.{added, falls, scan_in}
 use Rattle.conflict_theory.specs.Plains.{is_plain, is_diverges, are_plain}
-use Rattle.conflict_set.specs.declared.Stop.{Stop}
-use Rattle.conflict_set.specs.declared.Stop.TheVariants as stop
 
 -- ── the memory ──
 
@@ -125,17 +123,17 @@ pub record SolvedBy (m : List ℕ) (c : Counts) (l : List ℕ) (w : List ℕ) (r
   pub by : Whole m c → Told m c w r (unified_in m c l)
 
 -- where adding stopped
-abbrev pub stop_is : Option ℕ → Stop
-stop_is none = stop.Nowhere
-stop_is (some i) = stop.At i
+abbrev pub stop_is : Option ℕ → Option·R ℕ
+stop_is none = None
+stop_is (some i) = Some i
 
 -- it is below n
-abbrev pub stop_below : ℕ → Stop → Type 0
-stop_below n (stop.At i) = i < n
-stop_below n stop.Nowhere = Unit {0}
+abbrev pub stop_below : ℕ → Option·R ℕ → Type 0
+stop_below n (Some i) = i < n
+stop_below n None = Unit {0}
 
 -- those from n - 1 down to lo were added
-pub record FellBy (m : List ℕ) (c : Counts) (lo n : ℕ) (w : List ℕ) (r : Stop) : Type 0 where
+pub record FellBy (m : List ℕ) (c : Counts) (lo n : ℕ) (w : List ℕ) (r : Option·R ℕ) : Type 0 where
   pub within : stop_below n r
   pub by : Whole m c → Kept m c w × (r ≡ stop_is (falls (rows_in m c) (kinds_in m c) (pair_in m c) (mem_in m c) lo (n - lo)))
 

@@ -1,5 +1,5 @@
 -- What the promises of this crate rest on, over plain variables.
-use Rattle.std.specs.Prelude.{◌≡◌, ◌≢◌, List, [], ◌∷◌, ◌++◌, map, Bool, cond, length, set, replicate, ltb, eqb}
+use Rattle.std.specs.Prelude.{◌≡◌, ◌≢◌, List, [], ◌∷◌, ◌++◌, map, Bool, cond, length, set, replicate, ltb, eqb, None, Option as Option·R, Some}
 use Rattle.std.proofs.Math.Path.{refl, sym, ap, fun_ext}
 use Rattle.std.proofs.Common.{subst, ◌∙◌, length-set, get_or-set_same, get_or-set_other}
 use Rattle.std.proofs.Math.Option.{Option, none, some}
@@ -26,8 +26,6 @@ use Rattle.unify.specs.declared.Answer.{Answer}
 use Rattle.conflict_theory.specs.Test.{is_success, blank, unified}
 use Rattle.conflict_theory.specs.Code.{onward_success, fall_on, keep_in, added, falls, scan_in}
 use Rattle.conflict_theory.specs.Plains.{plain_shape, is_diverges, plain_in, is_plain, are_plain}
-use Rattle.conflict_set.specs.declared.Stop.{Stop}
-use Rattle.conflict_set.specs.declared.Stop.TheVariants as stop
 use Rattle.conflict_set.specs.In.{Whole, Kept, pair_in, node_in, cells_from, list_in, is_failed, first_behind, worked_in, all_from, plain_to, plain_head, got_plain, added_in, unified_in, went, reopened, Told, AddedBy, solves_in, AllAddedBy, SolvedBy, stop_is, FellBy, conflict_in, ScannedBy, Going, Falling, Scanning}
 
 -- ── what stays ──
@@ -160,6 +158,15 @@ module _ (m : List ℕ) (c : Counts) where
 
   pub plain_on : (n y h a : ℕ) → h ≡ head_in y → h ≡ 8 → n ≢ 0 → a ≡ number_in y → plain_in (rows_in m c) (suc n) y ≡ plain_in (rows_in m c) (suc (n - 1)) a
   plain_on n y h a e k z p = let d : n ≡ suc (n - 1) = omega arith in rw (plain_step n y, ← e, k, p) (ap (λ j. plain_in (rows_in m c) j (number_in y)) d)
+
+  -- an array is plain as its element is, in one step less
+  pub plain_next : (n y h a : ℕ) → h ≡ head_in y → h ≡ 8 → a ≡ number_in y → plain_in (rows_in m c) (suc n) y ≡ plain_in (rows_in m c) n a
+  plain_next n y h a e k p = rw (plain_step n y, ← e, k, p) refl
+
+  -- no step is left
+  pub plain_zero : (y : ℕ) → false ≡ plain_in (rows_in m c) 0 y
+  unfolding plain_in
+  plain_zero y = refl
 
   diverges_row : (y : ℕ) → is_diverges (row (rows_in m c) y) ≡ eqb (head_in y) 11
   diverges_row y = ap is_diverges (row_by m c.types y) ∙ diverges_shape (head_in y) (number_in y) (output_at m c.types y) (inputs_from m (first_at m c.types y) (count_at m c.types y)) (head_low m c.types y)
@@ -437,7 +444,7 @@ module _ (m₀ : List ℕ) (c : Counts) (lo n : ℕ) where
           same = rw (later_memory m₀ c h m x.kept j w true a) (ap (λ b. fall_on b j (falls (rows_in m₀ c) (kinds_in m₀ c) (pair_in m₀ c) l.1 lo (j - lo))) (later_answer m₀ c h m x.kept j w true a) ∙ sym (falls_is (mem_in m c)) ∙ x.same);
         }
 
-    pub falls_stop : i ≤ n → AddedBy m c j w false → FellBy m₀ c lo n w (stop.At j)
+    pub falls_stop : i ≤ n → AddedBy m c j w false → FellBy m₀ c lo n w (Some j)
     falls_stop most a =
         record {
           within = omega arith;
@@ -448,7 +455,7 @@ module _ (m₀ : List ℕ) (c : Counts) (lo n : ℕ) where
               (later_kept m₀ c h m x.kept j w false a, ap stop_is y);
         }
 
-  pub falls_end : (m : List ℕ) (i : ℕ) → i ≤ lo → Falls m i → FellBy m₀ c lo n m stop.Nowhere
+  pub falls_end : (m : List ℕ) (i : ℕ) → i ≤ lo → Falls m i → FellBy m₀ c lo n m None
   unfolding falls
   falls_end m i l f =
       record {
@@ -480,11 +487,11 @@ list_last s t k x h e =
     let y : 0 + k ≡ k = omega arith in
     rw (z, e, cells_last (set s k x) 0 k, cells_same s 0 k k x (omega arith), y, get_or-set_same s k x 0 h) refl
 
-stop_some : (i : ℕ) (o : Option ℕ) → stop.At i ≡ stop_is o → o ≡ some i
+stop_some : (i : ℕ) (o : Option ℕ) → Some i ≡ stop_is o → o ≡ some i
 stop_some i none e = clash (cc)
 stop_some i (some j) e = cc
 
-stop_none : (o : Option ℕ) → stop.Nowhere ≡ stop_is o → o ≡ none
+stop_none : (o : Option ℕ) → None ≡ stop_is o → o ≡ none
 stop_none none e = refl
 stop_none (some j) e = clash (cc)
 
@@ -530,25 +537,25 @@ module _ (m₀ : List ℕ) (c : Counts) (n : ℕ) (s₀ : List ℕ) where
       unfolding scan_in
       scan_is = let d : n - k ≡ suc (n - (k + 1)) = omega arith in rw (w_memory, w_answer) (sym (rw d at far.same))
 
-      finds_is : (u : List ℕ) (q : Stop) → FellBy w c lo n u q → q ≡ stop_is finds
+      finds_is : (u : List ℕ) (q : Option·R ℕ) → FellBy w c lo n u q → q ≡ stop_is finds
       finds_is u q f = rw (rows_on m₀ c w w_kept h, kinds_on m₀ c w w_kept h, pairs_on m₀ c w w_kept h) at (f.by (whole_on m₀ c w w_kept h)).1
 
     pub scans_stop : length s ≡ length s₀ → SolvedBy m c (list_in s k) w false → ScannedBy m₀ c n s₀ w s k
     scans_stop size a = record { size = size; most = omega arith; by = λ h l. (w_kept h l false a, sym (scan_is h l false a)) }
 
-    pub scans_nowhere : (u : List ℕ) → length s ≡ length s₀ → SolvedBy m c (list_in s k) w true → FellBy w c lo n u stop.Nowhere → ScannedBy m₀ c n s₀ u s k
+    pub scans_nowhere : (u : List ℕ) → length s ≡ length s₀ → SolvedBy m c (list_in s k) w true → FellBy w c lo n u None → ScannedBy m₀ c n s₀ u s k
     scans_nowhere u size a f =
         record {
           size = size;
           most = omega arith;
           by = λ h l.
-              let o = stop_none (finds h l true a) (finds_is h l true a u stop.Nowhere f) in
+              let o = stop_none (finds h l true a) (finds_is h l true a u None f) in
               (kept_on m₀ c w u (w_kept h l true a) (f.by (whole_on m₀ c w (w_kept h l true a) h)).0, sym (scan_is h l true a ∙ ap (λ z. keep_in (scan_in (rows_in m₀ c) (kinds_in m₀ c) (pair_in m₀ c) n (n - (k + 1))) (list_in s k) true z) o));
         }
 
-    pub scans_on : (u t : List ℕ) (i : ℕ) → length s ≡ length s₀ → SolvedBy m c (list_in s k) w true → FellBy w c lo n u (stop.At i) → t ≡ set s k i → Scans u t (k + 1) (i + 1)
+    pub scans_on : (u t : List ℕ) (i : ℕ) → length s ≡ length s₀ → SolvedBy m c (list_in s k) w true → FellBy w c lo n u (Some i) → t ≡ set s k i → Scans u t (k + 1) (i + 1)
     scans_on u t i size a f e h l =
-        let o = stop_some i (finds h l true a) (finds_is h l true a u (stop.At i) f) in
+        let o = stop_some i (finds h l true a) (finds_is h l true a u (Some i) f) in
         let z : suc i ≡ i + 1 = omega arith in
         record {
           kept = kept_on m₀ c w u (w_kept h l true a) (f.by (whole_on m₀ c w (w_kept h l true a) h)).0;

@@ -1,5 +1,5 @@
 -- What the promises of the search rest on, over plain variables.
-use Rattle.std.specs.Prelude.{◌≡◌, ◌≢◌, ◌⊎◌, Bool, true, false, cond, length, ltb}
+use Rattle.std.specs.Prelude.{◌≡◌, ◌≢◌, ◌⊎◌, Bool, true, false, cond, length, ltb, None, Option as Option·R, Some}
 use Rattle.std.proofs.Math.Path.{refl, sym, ap}
 use Rattle.std.proofs.Common.{◌∙◌, inl, inr}
 use mathlib.Core.List.{List, [], ◌∷◌, ◌++◌, append_assoc, append-nil}
@@ -21,8 +21,6 @@ use Rattle.type_table.specs.declared.TypeId.{TypeId}
 use Rattle.type_table.specs.declared.VarId.{VarId}
 use Rattle.type_table.specs.declared.Kind.{Kind as Kind-as-C}
 use Rattle.type_table.specs.declared.Kind.TheVariants as kinds
-use Rattle.type_table.specs.declared.Bound.{Bound}
-use Rattle.type_table.specs.declared.Bound.TheVariants as binding
 use Rattle.type_table.specs.Memory.{pick, cell, most_vars, head_at, number_at, output_at, first_at, count_at, inputs_from, shape_of, binding_at, mark_at, binds_of, marks_of, mem_of, var_cell, kind_of, kind_at}
 use Rattle.type_table.specs.View.{bound_code}
 use Rattle.type_table.specs.View as view
@@ -35,7 +33,7 @@ use Rattle.unify.specs.Leaf.{kind_k}
 use Rattle.conflict_theory.specs.Test.{is_success, blank, unified, ok}
 use Rattle.conflict_theory.specs.Worked.{PlainPair, from, from_below}
 use Rattle.conflict_theory.specs.Subsets.{next, next_below}
-use Rattle.conflict_theory.specs.Search.{found, tested, onward_to}
+use Rattle.conflict_theory.specs.Search.{tested, onward_to}
 use Rattle.conflict_theory.specs.Code.{added, unified_last, ok_stays, on_next, tries_in, search_in}
 use Rattle.conflict_theory.specs.OneBound.{end_var, end_shape, open_end, opened, is_some, bound_one, set_open, PlainBinds, bound_by, unified_plain, added_back}
 use Rattle.conflict_theory.specs.Free.{free_vars, free_expected, free_got, kinds_meet, can_meet}
@@ -43,8 +41,6 @@ use Rattle.conflict_theory.specs.Marks.{Unmarked}
 use Rattle.conflict_theory.specs.Plains.{are_plain, sides_plain}
 use Rattle.conflict_set.specs.declared.Lead.{Lead}
 use Rattle.conflict_set.specs.declared.Lead.TheVariants as lead
-use Rattle.conflict_set.specs.declared.Pushed.TheVariants as pushed
-use Rattle.conflict_set.specs.declared.Advanced.TheVariants as advanced
 use Rattle.conflict_set.specs.declared.Tried.{Tried}
 use Rattle.conflict_set.specs.declared.Tried.TheVariants as tried
 use Rattle.conflict_set.specs.declared.Searched.{Searched}
@@ -73,9 +69,9 @@ by_cases f false true x y z = refl
 by_cases f false false x y z = refl
 
 -- the row of a binding
-abbrev row_of : Bound → ℕ
-row_of (binding.To x) = x.0
-row_of binding.Open = 0
+abbrev row_of : Option·R TypeId → ℕ
+row_of (Some x) = x.0
+row_of None = 0
 
 module _ (m : List ℕ) (c : Counts) where
   -- the open end of a row in so many steps
@@ -121,19 +117,19 @@ module _ (m : List ℕ) (c : Counts) where
     unfolding lead_in
     lead_array e x q = rw (← p, e, ← q) refl
 
-    pub lead_bound : h ≢ 8 → h ≡ 12 → (v : VarId) (b : Bound) → v.0 ≡ number_at m c.types y → b ≡ view.bound_in m c v → (x : TypeId) → b ≡ binding.To x → lead.On x ≡ lead_in m c y
+    pub lead_bound : h ≢ 8 → h ≡ 12 → (v : VarId) (b : Option·R TypeId) → v.0 ≡ number_at m c.types y → b ≡ view.bound_in m c v → (x : TypeId) → b ≡ Some x → lead.On x ≡ lead_in m c y
     unfolding lead_in view.bound_in
     lead_bound k e v b q r x t = rw (← p, ne_eqb h 8 k, e, ← q) (by (binding_at m c.vars v.0) (sym t ∙ r))
       where
-        by : (o : Option ℕ) → binding.To x ≡ bound_code o → lead.On x ≡ lead_var v.0 o
+        by : (o : Option ℕ) → Some x ≡ bound_code o → lead.On x ≡ lead_var v.0 o
         by none d = clash (cc)
         by (some r) d = ap (λ z. lead.On (view.type z)) (ap row_of d)
 
-    pub lead_open : h ≢ 8 → h ≡ 12 → (v : VarId) (b : Bound) → v.0 ≡ number_at m c.types y → b ≡ view.bound_in m c v → b ≡ binding.Open → lead.Open v ≡ lead_in m c y
+    pub lead_open : h ≢ 8 → h ≡ 12 → (v : VarId) (b : Option·R TypeId) → v.0 ≡ number_at m c.types y → b ≡ view.bound_in m c v → b ≡ None → lead.Open v ≡ lead_in m c y
     unfolding lead_in view.bound_in
     lead_open k e v b q r t = rw (← p, ne_eqb h 8 k, e, ← q) (by (binding_at m c.vars v.0) (sym t ∙ r))
       where
-        by : (o : Option ℕ) → binding.Open ≡ bound_code o → lead.Open v ≡ lead_var v.0 o
+        by : (o : Option ℕ) → None ≡ bound_code o → lead.Open v ≡ lead_var v.0 o
         by none d = refl
         by (some r) d = clash (cc)
 
@@ -142,19 +138,19 @@ module _ (m : List ℕ) (c : Counts) where
     lead_nowhere k e = rw (← p, ne_eqb h 8 k, ne_eqb h 12 e) refl
 
 -- of two ends, the one that is bound
-pub bound_first : (m : List ℕ) (c : Counts) (v : VarId) (a b : ℕ) (r : Bound) (x : ℕ) → v.0 ≡ a → r ≡ view.bound_in m c v → r ≡ binding.To (view.type x) → a ≡ bound_end m c a b
+pub bound_first : (m : List ℕ) (c : Counts) (v : VarId) (a b : ℕ) (r : Option·R TypeId) (x : ℕ) → v.0 ≡ a → r ≡ view.bound_in m c v → r ≡ Some (view.type x) → a ≡ bound_end m c a b
 unfolding bound_end view.bound_in
 bound_first m c v a b r x s e t = by (binding_at m c.vars a) (sym t ∙ e ∙ ap (λ i. bound_code (binding_at m c.vars i)) s)
   where
-    by : (o : Option ℕ) → binding.To (view.type x) ≡ bound_code o → a ≡ if_bound o a b
+    by : (o : Option ℕ) → Some (view.type x) ≡ bound_code o → a ≡ if_bound o a b
     by none d = clash (cc)
     by (some r) d = refl
 
-pub bound_second : (m : List ℕ) (c : Counts) (v : VarId) (a b : ℕ) (r : Bound) → v.0 ≡ a → r ≡ view.bound_in m c v → r ≡ binding.Open → b ≡ bound_end m c a b
+pub bound_second : (m : List ℕ) (c : Counts) (v : VarId) (a b : ℕ) (r : Option·R TypeId) → v.0 ≡ a → r ≡ view.bound_in m c v → r ≡ None → b ≡ bound_end m c a b
 unfolding bound_end view.bound_in
 bound_second m c v a b r s e t = by (binding_at m c.vars a) (sym t ∙ e ∙ ap (λ i. bound_code (binding_at m c.vars i)) s)
   where
-    by : (o : Option ℕ) → binding.Open ≡ bound_code o → b ≡ if_bound o a b
+    by : (o : Option ℕ) → None ≡ bound_code o → b ≡ if_bound o a b
     by none d = refl
     by (some r) d = clash (cc)
 
@@ -181,7 +177,7 @@ unfolding mem_of
 few_vars w c h = omega (arith, length_binds w c.vars)
 
 module _ (m : List ℕ) (c : Counts) (i : ℕ) (x y a b : ℕ) (p : x ≡ (pair_in m c i).0) (q : y ≡ (pair_in m c i).1) (e : a ≡ open_end_in m c x) (g : b ≡ open_end_in m c y) (w : List ℕ) where
-  pub push_bound : (v : ℕ) → AddedBy m c i w true → v ≡ bound_end w c a b → PushedBy m c i w (pushed.Bound v)
+  pub push_bound : (v : ℕ) → AddedBy m c i w true → v ≡ bound_end w c a b → PushedBy m c i w (Some v)
   unfolding bound_end bound_by open_end_in
   push_bound v t d =
       record {
@@ -191,7 +187,7 @@ module _ (m : List ℕ) (c : Counts) (i : ℕ) (x y a b : ℕ) (p : x ≡ (pair_
             (k, d ∙ ap (λ (o : Option ℕ). if_bound o a b) (sym (bound_in_lem w c a)) ∙ rw (e, g, p, q) (if_number (mem_in w c).binds (open_end (rows_in m c) (mem_in m c).binds (fuel (rows_in m c) (mem_in m c)) (pair_in m c i).0) (open_end (rows_in m c) (mem_in m c).binds (fuel (rows_in m c) (mem_in m c)) (pair_in m c i).1) n) ∙ ap (λ (z : Mem). var_number (bound_one z.binds (open_end (rows_in m c) (mem_in m c).binds (fuel (rows_in m c) (mem_in m c)) (pair_in m c i).0) (open_end (rows_in m c) (mem_in m c).binds (fuel (rows_in m c) (mem_in m c)) (pair_in m c i).1))) k.memory);
       }
 
-  pub push_failed : AddedBy m c i w false → PushedBy m c i w pushed.Failed
+  pub push_failed : AddedBy m c i w false → PushedBy m c i w None
   push_failed t = record { by = λ h. t.by h }
 
 -- ── opened again ──
@@ -373,7 +369,7 @@ module _ (m₀ : List ℕ) (c : Counts) (h : Whole m₀ c) where
           rw (next-is, g) (opened_number on_top.1 o (rw (← (told_is true k).1) (few_vars w c h.vars)) ∙ b)
 
       -- one more is solved
-      pub stacked_next : (u : List ℕ) → j < length t → (v : ℕ) → u ≡ set t j v → PushedIs m c q w (pushed.Bound v) → Stacked m₀ c s u (j + 1) w
+      pub stacked_next : (u : List ℕ) → j < length t → (v : ℕ) → u ≡ set t j v → PushedIs m c q w (Some v) → Stacked m₀ c s u (j + 1) w
       stacked_next u l v f k =
           let z : j + 1 ≡ suc j = omega arith in
           rw z (record {
@@ -392,7 +388,7 @@ module _ (m₀ : List ℕ) (c : Counts) (h : Whole m₀ c) where
           mine i (no z) b = rw (f, get_or-set_other t j i v 0 z) (x.back i (omega arith))
 
       -- the equation is tested and taken back
-      pub tested_back : (v : ℕ) (w' : List ℕ) → w' ≡ opened_in w c.vars v → PushedIs m c q w (pushed.Bound v) → LastTo true m₀ c s t j w'
+      pub tested_back : (v : ℕ) (w' : List ℕ) → w' ≡ opened_in w c.vars v → PushedIs m c q w (Some v) → LastTo true m₀ c s t j w'
       tested_back v w' f k = (
         record {
           kept = kept_on m₀ c w w' (kept_next true k.0) (rw f (opened_kept w c v));
@@ -423,7 +419,7 @@ module _ (m₀ : List ℕ) (c : Counts) (h : Whole m₀ c) where
               ok_yes_of z k = ok_top (ap (λ (r : Res). is_success r.0) (sym z) ∙ ap is_success k)
 
     -- one more has no solution
-    pub stacked_failed : PushedIs m c q w pushed.Failed → Kept m₀ c w × (ok_in m₀ c (list_in s (suc j)) ≡ false)
+    pub stacked_failed : PushedIs m c q w None → Kept m₀ c w × (ok_in m₀ c (list_in s (suc j)) ≡ false)
     stacked_failed k = (kept_next false k, ok_next false k)
 
 -- ── pushed ──
@@ -442,12 +438,12 @@ module _ (me : List ℕ) (c : Counts) (s t₀ : List ℕ) (j k : ℕ) where
   pushes_start m₀ h p l a x = x
 
   module _ (m t : List ℕ) (i q : ℕ) (size : length t ≡ length t₀) (less : i < k) (e : q ≡ cell s i) (g : Pushes m t i) (w : List ℕ) where
-    pub pushes_on : (v : ℕ) (u : List ℕ) → u ≡ set t i v → PushedBy m c q w (pushed.Bound v) → Pushes w u (i + 1)
+    pub pushes_on : (v : ℕ) (u : List ℕ) → u ≡ set t i v → PushedBy m c q w (Some v) → Pushes w u (i + 1)
     pushes_on v u f b m₀ h p l a x =
         let y = g m₀ h p l a x in
         stacked_next m₀ c h s t i m y q e w (λ n d. p n (omega arith)) u (omega arith) v f (b.by (whole_on m₀ c m y.kept h))
 
-    pub pushes_stop : PushedBy m c q w pushed.Failed → PushedFrom me c s t₀ j k w t false
+    pub pushes_stop : PushedBy m c q w None → PushedFrom me c s t₀ j k w t false
     pushes_stop b =
         record {
           size = size;
@@ -467,10 +463,10 @@ module _ (m : List ℕ) (c : Counts) (i : ℕ) where
   pub last_free : (x y : ℕ) → x ≡ (pair_in m c i).0 → y ≡ (pair_in m c i).1 → true ≡ free_in m c x y → LastTested m c i m true
   last_free x y p q f = record { by = λ m₀ s t j h d e k. tested_free m₀ c h s t j m k i e m d (rw (← p, ← q) (sym f)) }
 
-  pub last_bound : (v : ℕ) (w w' : List ℕ) → PushedBy m c i w (pushed.Bound v) → w' ≡ opened_in w c.vars v → LastTested m c i w' true
+  pub last_bound : (v : ℕ) (w w' : List ℕ) → PushedBy m c i w (Some v) → w' ≡ opened_in w c.vars v → LastTested m c i w' true
   last_bound v w w' b f = record { by = λ m₀ s t j h d e k. tested_back m₀ c h s t j m k i e w d v w' f (b.by (whole_on m₀ c m k.kept h)) }
 
-  pub last_failed : (w : List ℕ) → PushedBy m c i w pushed.Failed → LastTested m c i w false
+  pub last_failed : (w : List ℕ) → PushedBy m c i w None → LastTested m c i w false
   last_failed w b = record { by = λ m₀ s t j h d e k. stacked_failed m₀ c h s t j m k i e w (b.by (whole_on m₀ c m k.kept h)) }
 
 module _ (m : List ℕ) (c : Counts) (s t : List ℕ) (j k : ℕ) (pos : 0 < k) (w u : List ℕ) where
@@ -573,7 +569,7 @@ module _ (s : List ℕ) (k n : ℕ) where
     pub last_on : n < x + (k - q) + 1 → Last q
     last_on g = at_q ∙ rw (le-ltb (suc x + (k - p)) n (omega arith)) refl
 
-    pub advance_found : (t : List ℕ) (f : ℕ) → x + (k - q) + 1 ≤ n → f ≡ x + 1 → FollowedBy s q k f t → AdvancedBy s k n t (advanced.From q)
+    pub advance_found : (t : List ℕ) (f : ℕ) → x + (k - q) + 1 ≤ n → f ≡ x + 1 → FollowedBy s q k f t → AdvancedBy s k n t (Some q)
     advance_found t f g i w =
         record {
           size = w.size;
@@ -587,7 +583,7 @@ module _ (s : List ℕ) (k n : ℕ) where
               (w.before, rw (cells_both s 0 q (k - q) k q (omega arith) (omega arith), y) b);
         }
 
-  pub advance_none : (p : ℕ) → p ≤ 0 → Last p → AdvancedBy s k n s advanced.Behind
+  pub advance_none : (p : ℕ) → p ≤ 0 → Last p → AdvancedBy s k n s None
   advance_none p z l = record { size = refl; within = tt; by = λ m. let y : p ≡ 0 = omega arith in let d : k - p ≡ k = omega arith in (refl, rw (d, y) at l) }
 
 -- ── subset by subset ──
@@ -654,7 +650,7 @@ module _ (me : List ℕ) (c : Counts) (s₀ t₀ : List ℕ) (k n b : ℕ) where
     tries_found rest w u z e most q = record { size = size; room = sized rest w u z e most false q; by = λ m₀ h p l d a x. let y = tested_is rest w u z e most false q m₀ h p l d a x in (y.0, tries_is rest w u z e most false q m₀ h p l d a x false y.1) }
 
     module _ (rest : ℕ) (w u : List ℕ) (z : left ≢ 0) (e : rest ≡ left - 1) (most : j ≤ k - 1) (q : SetTested m c s t j k w u true) (s' : List ℕ) where
-      pub tries_through : AdvancedBy s k n s' advanced.Behind → TriedBy me c s₀ t₀ k n b w s' u (tried.Through rest)
+      pub tries_through : AdvancedBy s k n s' None → TriedBy me c s₀ t₀ k n b w s' u (tried.Through rest)
       tries_through v =
           record {
             size = v.size ∙ size;
@@ -665,7 +661,7 @@ module _ (me : List ℕ) (c : Counts) (s₀ t₀ : List ℕ) (k n b : ℕ) where
                 (y.0.kept, rw f.1 at (tries_is rest w u z e most true q m₀ h p l d a x true y.1));
           }
 
-      pub tries_on : (i : ℕ) (w' : List ℕ) → AdvancedBy s k n s' (advanced.From i) → PoppedBy w c u i (k - 1) w' → Tries w' s' u rest i
+      pub tries_on : (i : ℕ) (w' : List ℕ) → AdvancedBy s k n s' (Some i) → PoppedBy w c u i (k - 1) w' → Tries w' s' u rest i
       tries_on i w' v o m₀ h p l d a x =
           let y = tested_is rest w u z e most true q m₀ h p l d a x in
           let f = v.by (omega arith) in

@@ -1,5 +1,5 @@
 -- The search over the memory of a walk, and what its functions promise. Definitions alone.
-use Rattle.std.specs.Prelude.{◌≡◌, List, ◌++◌, Bool, true, false, ℕ, suc, ◌+◌, ◌-◌, ◌*◌, ◌≤◌, ◌<◌, length, set, eqb, ltb}
+use Rattle.std.specs.Prelude.{◌≡◌, List, ◌++◌, Bool, true, false, ℕ, suc, ◌+◌, ◌-◌, ◌*◌, ◌≤◌, ◌<◌, length, set, eqb, ltb, None, Option as Option·R, Some}
 use Rattle.std.proofs.Math.Option.{Option, none, some}
 use Rattle.theory.specs.Rules.{Kind, kind, is_regular}
 use Rattle.theory.specs.Program.{fuel}
@@ -16,10 +16,6 @@ use Rattle.conflict_theory.specs.OneBound.{open_end, opened, bound_by}
 use Rattle.conflict_theory.specs.Free.{can_meet}
 use Rattle.conflict_set.specs.declared.Lead.{Lead}
 use Rattle.conflict_set.specs.declared.Lead.TheVariants as lead
-use Rattle.conflict_set.specs.declared.Pushed.{Pushed}
-use Rattle.conflict_set.specs.declared.Pushed.TheVariants as pushed
-use Rattle.conflict_set.specs.declared.Advanced.{Advanced}
-use Rattle.conflict_set.specs.declared.Advanced.TheVariants as advanced
 use Rattle.conflict_set.specs.declared.Tried.{Tried}
 use Rattle.conflict_set.specs.declared.Tried.TheVariants as tried
 use Rattle.conflict_set.specs.declared.Searched.{Searched}
@@ -65,12 +61,12 @@ abbrev pub ok_in : List ℕ → Counts → List ℕ → Bool
 ok_in m c = ok (rows_in m c) (kinds_in m c) (pair_in m c)
 
 -- what an equation more comes to
-abbrev pub PushedIs : List ℕ → Counts → ℕ → List ℕ → Pushed → Type 0
-PushedIs m c i w (pushed.Bound v) = Told m c w true (added_in m c i) × (v ≡ var_number (bound_by (rows_in m c) (kinds_in m c) (pair_in m c) (mem_in m c) i))
-PushedIs m c i w pushed.Failed = Told m c w false (added_in m c i)
+abbrev pub PushedIs : List ℕ → Counts → ℕ → List ℕ → Option·R ℕ → Type 0
+PushedIs m c i w (Some v) = Told m c w true (added_in m c i) × (v ≡ var_number (bound_by (rows_in m c) (kinds_in m c) (pair_in m c) (mem_in m c) i))
+PushedIs m c i w None = Told m c w false (added_in m c i)
 
 -- the equation i on top of those solved
-pub record PushedBy (m : List ℕ) (c : Counts) (i : ℕ) (w : List ℕ) (r : Pushed) : Type 0 where
+pub record PushedBy (m : List ℕ) (c : Counts) (i : ℕ) (w : List ℕ) (r : Option·R ℕ) : Type 0 where
   pub by : Whole m c → PushedIs m c i w r
 
 -- the equations in the first j places of the set s are solved, over the tables of m₀, and t has at the place of each one what takes it back
@@ -142,17 +138,17 @@ pub record FollowedBy (s : List ℕ) (p k f : ℕ) (t : List ℕ) : Type 0 where
   pub by : k ≤ length s → list_in t k ≡ list_in s p ++ from f (k - p)
 
 -- a place is below k
-abbrev pub place_below : ℕ → Advanced → Type 0
-place_below k (advanced.From p) = p < k
-place_below k advanced.Behind = Unit {0}
+abbrev pub place_below : ℕ → Option·R ℕ → Type 0
+place_below k (Some p) = p < k
+place_below k None = Unit {0}
 
 -- the next set stands there, with the places before p as they were; or there is none
-abbrev pub AdvancedTo : Advanced → List ℕ → ℕ → ℕ → List ℕ → Type 0
-AdvancedTo (advanced.From p) s k n t = ((i : ℕ) → i < p → cell t i ≡ cell s i) × (next n (list_in s k) ≡ some (list_in t k))
-AdvancedTo advanced.Behind s k n t = (t ≡ s) × (next n (list_in s k) ≡ none)
+abbrev pub AdvancedTo : Option·R ℕ → List ℕ → ℕ → ℕ → List ℕ → Type 0
+AdvancedTo (Some p) s k n t = ((i : ℕ) → i < p → cell t i ≡ cell s i) × (next n (list_in s k) ≡ some (list_in t k))
+AdvancedTo None s k n t = (t ≡ s) × (next n (list_in s k) ≡ none)
 
 -- the next k numbers below n
-pub record AdvancedBy (s : List ℕ) (k n : ℕ) (t : List ℕ) (r : Advanced) : Type 0 where
+pub record AdvancedBy (s : List ℕ) (k n : ℕ) (t : List ℕ) (r : Option·R ℕ) : Type 0 where
   pub size : length t ≡ length s
   pub within : place_below k r
   pub by : k ≤ length s → AdvancedTo r s k n t

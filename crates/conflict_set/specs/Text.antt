@@ -1,5 +1,5 @@
 -- The texts of f) and n), and what their functions leave of a lent output. Definitions alone.
-use Rattle.std.specs.Prelude.{◌≡◌, List, [], ◌∷◌, ◌++◌, Bool, true, cond, ℕ, ◌≤◌, eqb, get_or}
+use Rattle.std.specs.Prelude.{◌≡◌, List, [], ◌∷◌, ◌++◌, Bool, true, cond, ℕ, ◌≤◌, eqb, get_or, None, Option as Option·R, Some}
 use Rattle.std.proofs.Math.Option.{Option, none, some}
 use Rattle.theory.specs.Rules.{Shape, Kind, Pair}
 use Rattle.theory.specs.Program.{Equation}
@@ -10,8 +10,6 @@ use Rattle.type_table.specs.declared.Counts.{Counts}
 use Rattle.type_table.specs.Memory.{pick}
 use Rattle.lex.specs.Text.{text}
 use Rattle.output.specs.Output.{number_text, newline, zeros, ended, Written}
-use Rattle.output.specs.declared.Ending.{Ending}
-use Rattle.output.specs.declared.Ending.TheVariants as ending
 use Rattle.conflict_set.specs.declared.Outcome.{Outcome}
 use Rattle.conflict_set.specs.declared.Outcome.TheVariants as outcome
 use Rattle.conflict_set.specs.declared.Lines.{Lines}
@@ -69,9 +67,9 @@ abbrev pub told : Outcome → List ℕ → Told
 told a x = record { answer = a; bytes = x }
 
 -- by where a text ends
-abbrev pub by_ending : Ending → Outcome
-by_ending (ending.At n) = outcome.Written n
-by_ending ending.Full = outcome.NoRoom
+abbrev pub by_ending : Option·R ℕ → Outcome
+by_ending (Some n) = outcome.Written n
+by_ending None = outcome.NoRoom
 
 -- of a text, or none: 14 without one; 9 without room; zeros throughout on both
 unfoldable pub told_of : Option (List ℕ) → List ℕ → Told

@@ -1,5 +1,5 @@
 -- What the promises of the texts rest on, over plain variables.
-use Rattle.std.specs.Prelude.{◌≡◌, refl, ◌≢◌, List, [], ◌∷◌, ◌++◌, Bool, true, false, ℕ, suc, zero, ◌+◌, ◌*◌, ◌-◌, ◌≤◌, ◌<◌, length, replicate, ltb}
+use Rattle.std.specs.Prelude.{◌≡◌, refl, ◌≢◌, List, [], ◌∷◌, ◌++◌, Bool, true, false, ℕ, suc, zero, ◌+◌, ◌*◌, ◌-◌, ◌≤◌, ◌<◌, length, replicate, ltb, None, Option}
 use Rattle.std.proofs.Common.{sym, ap, subst, ◌∙◌, inr, append_assoc, append-nil, arith}
 use Rattle.std.proofs.Math.Path.{fun_ext}
 use Rattle.std.proofs.Math.Option.{none, some}
@@ -15,8 +15,6 @@ use Rattle.lex.specs.Text.{text}
 use Rattle.conflict_theory.specs.Code.{search_in}
 use Rattle.output.specs.Output.{number_text, newline, zeros, Output, output, ended, full, Written, Appends, Finishes}
 use Rattle.output.specs.Appending.{started, then, append_none}
-use Rattle.output.specs.declared.Ending.{Ending}
-use Rattle.output.specs.declared.Ending.TheVariants as ending
 use Rattle.conflict_set.specs.declared.Outcome.{Outcome}
 use Rattle.conflict_set.specs.declared.Outcome.TheVariants as outcome
 use Rattle.conflict_set.specs.declared.Lines.{Lines}
@@ -78,18 +76,18 @@ line_place m c l i n p q e f g h a = rw (e, ← f, ← g, ← h) a
 
 -- ── the end ──
 
-pub written_law : (c : ℕ) (x : List ℕ) (d : Ending) (y : List ℕ) (r : Outcome) → Finishes c x d y → r ≡ by_ending d → WrittenBy c x r y
+pub written_law : (c : ℕ) (x : List ℕ) (d : Option ℕ) (y : List ℕ) (r : Outcome) → Finishes c x d y → r ≡ by_ending d → WrittenBy c x r y
 unfolding told_of
 written_law c x d y r f e = record { by = λ t o w. let q = f.finishes t o w in rw e (ap (λ (z : Output). told (by_ending z.ending) z.bytes) q) }
 
 -- nothing fits behind a full output
-pub nothing_law : (x : List ℕ) (d : Ending) (y : List ℕ) → Finishes full x d y → told outcome.Nothing y ≡ told_of none x
+pub nothing_law : (x : List ℕ) (d : Option ℕ) (y : List ℕ) → Finishes full x d y → told outcome.Nothing y ≡ told_of none x
 unfolding told_of ended
 nothing_law x d y f =
     let t = replicate {A = ℕ} (suc (length x)) 0 in
     let n = length-replicate {A = ℕ} (suc (length x)) 0 in
     let q = f.finishes t x (inr (refl, omega arith, refl)) in
-    let p : ended t x ≡ output ending.Full (zeros x) = rw (lt-ltb (length x) (length t) (omega arith)) refl in
+    let p : ended t x ≡ output None (zeros x) = rw (lt-ltb (length x) (length t) (omega arith)) refl in
     ap (λ (z : Output). told outcome.Nothing z.bytes) (q ∙ p)
 
 -- ── f ──

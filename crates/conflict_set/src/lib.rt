@@ -18,10 +18,9 @@ ghost use Rattle.conflict_set.specs.declared.Lines.TheVariants.{Places};
 ghost use Rattle.conflict_set.specs.Searching.{lead_in, open_end_in, bound_end, opened_in, PushedBy, PushedFrom, PoppedBy, free_in, LastTested, SetTested, FollowedBy, AdvancedBy, TriedBy, FirstTriedBy, SearchedBy};
 ghost use Rattle.conflict_set.specs.Text.{line_text, line_in, set_text, told, told_of, WrittenBy, ConflictPut, BelowPut, SearchedPut, ShortestPut, SoughtPut, ConflictBy};
 
-use output::Ending;
 use record::Record;
 use type_table::{
-    Bound, Counts, HEAD_ARRAY, HEAD_DIVERGES, HEAD_ERROR, HEAD_FN_DEF, HEAD_INFER_TY, HEAD_LAMBDA,
+    Counts, HEAD_ARRAY, HEAD_DIVERGES, HEAD_ERROR, HEAD_FN_DEF, HEAD_INFER_TY, HEAD_LAMBDA,
     HEAD_PARAM, HEAD_REF, Kind, TypeId, VarId,
 };
 use unify::Answer;
@@ -61,29 +60,22 @@ fn node(m: &[u16], i: u16) -> u16
 }
 
 // Whether it failed with cause 1 or was refused 12.
+#[tactic(auto, using(std::proofs::lemmas::Bool::Decides::nat_tests), unfolding(crate::specs::In::is_failed))]
 fn is_failed(m: &[u16], i: u16) -> bool
     ensures { result ≡ is_failed (cell m.now (log_at + i * 3 + 2)) }
 {
     let a = memory_cells::read(m, record::LOG_AT + i as usize * 3 + 2) % 16;
-    if a == 1 {
-        return true;
-    }
-    if a == 12 {
-        return true;
-    }
-    false
+    a == 1 || a == 12
 }
 
 // How many equations f) works on: those up to and including the first of q that failed so; 0 if none did.
 fn worked(m: &[u16], q: u16) -> u16
     ensures { result ≡ worked_in m.now q }
 {
-    let mut i = 0;
-    while i < q {
+    for i in 0..q {
         if is_failed(m, i) {
             return i + 1;
         }
-        i += 1;
     }
     0
 }
@@ -91,28 +83,14 @@ fn worked(m: &[u16], q: u16) -> u16
 // ── plain sides ──
 
 // Whether a head that is no array's is that of a plain type.
+#[tactic(auto, using(std::proofs::lemmas::Bool::Decides::nat_tests), unfolding(crate::specs::In::plain_head))]
 fn plain_head(h: u16) -> bool
     ensures { result ≡ plain_head h }
 {
-    if h == HEAD_PARAM {
-        return false;
-    }
-    if h == HEAD_FN_DEF {
-        return false;
-    }
-    if h == HEAD_ERROR {
-        return false;
-    }
-    if h == HEAD_DIVERGES {
-        return false;
-    }
-    if h == HEAD_LAMBDA {
-        return false;
-    }
-    if h == HEAD_REF {
-        return false;
-    }
-    true
+    !matches!(
+        h,
+        HEAD_PARAM | HEAD_FN_DEF | HEAD_ERROR | HEAD_DIVERGES | HEAD_LAMBDA | HEAD_REF
+    )
 }
 
 // Whether the row x is plain; an array is made of a lower row.
@@ -120,39 +98,28 @@ fn is_plain(m: &[u16], c: Counts, x: TypeId) -> bool
     ensures { result ≡ is_plain (rows_in m.now c) x.0 }
 {
     let mut y = x;
-    let mut n = x.0;
-    loop {
+    for _step in 0..x.0 as u32 + 1 {
         let h = type_table::head(m, c, y);
         if h != HEAD_ARRAY {
             return plain_head(h);
         }
-        if n == 0 {
-            return false;
-        }
-        n -= 1;
         y = type_table::element(m, c, y);
     }
+    false
 }
 
 // Whether a got side is plain or Diverges.
 fn got_plain(m: &[u16], c: Counts, y: TypeId) -> bool
     ensures { result ≡ got_plain (rows_in m.now c) y.0 }
 {
-    if type_table::head(m, c, y) == HEAD_DIVERGES {
-        return true;
-    }
-    is_plain(m, c, y)
+    type_table::head(m, c, y) == HEAD_DIVERGES || is_plain(m, c, y)
 }
 
 // Whether the row x is plain, where the row `known` is: a list has one row against all of its elements.
 fn expected_plain(m: &[u16], c: Counts, x: TypeId, known: u16) -> bool
     ensures { is_plain (rows_in m.now c) known ≡ true → result ≡ is_plain (rows_in m.now c) x.0 }
 {
-    let y = x.0;
-    if y == known {
-        return true;
-    }
-    is_plain(m, c, x)
+    x.0 == known || is_plain(m, c, x)
 }
 
 // Whether the sides of the equation i are plain, Diverges as got side excepted, where the row `known` is plain.
@@ -161,10 +128,7 @@ fn sides_plain(m: &[u16], c: Counts, i: u16, known: u16) -> bool
 {
     let x = expected(m, c, i);
     let y = got(m, c, i);
-    if expected_plain(m, c, x, known) {
-        return got_plain(m, c, y);
-    }
-    false
+    expected_plain(m, c, x, known) && got_plain(m, c, y)
 }
 
 // Whether those of the first n are. What is no row is Nil, which is plain.
@@ -172,15 +136,11 @@ fn all_plain(m: &[u16], c: Counts, n: u16) -> bool
     ensures { c.types ≤ 65535 → result ≡ plain_to m.now c n }
 {
     let mut known = NO_ROW;
-    let mut i = 0;
-    while i < n {
-        if sides_plain(m, c, i, known) {
-            let x = expected(m, c, i);
-            known = x.0;
-            i += 1;
-        } else {
+    for i in 0..n {
+        if !sides_plain(m, c, i, known) {
             return false;
         }
+        known = expected(m, c, i).0;
     }
     true
 }
@@ -191,12 +151,9 @@ fn all_plain(m: &[u16], c: Counts, n: u16) -> bool
 fn reopen(m: &mut [u16], c: Counts)
     ensures { m.new ≡ reopened m.old c.vars }
 {
-    let n = c.vars;
-    let mut v: u16 = 0;
-    while v < n {
+    for v in 0..c.vars {
         memory_cells::write(m, v as usize * 5 + 2, 0);
         memory_cells::write(m, v as usize * 5 + 4, 0);
-        v += 1;
     }
 }
 
@@ -204,12 +161,7 @@ fn reopen(m: &mut [u16], c: Counts)
 fn is_success(a: Answer) -> bool
     ensures { result ≡ went a }
 {
-    match a {
-        Answer::Success => true,
-        Answer::Mismatch => false,
-        Answer::Refused12 => false,
-        Answer::Refused13 => false,
-    }
+    a == Answer::Success
 }
 
 // The equation i on top of those solved: whether there still is a solution.
@@ -218,20 +170,16 @@ fn add(m: &mut [u16], c: Counts, i: u16) -> bool
 {
     let x = expected(m, c, i);
     let y = got(m, c, i);
-    let a = unify::unify(m, c, x, y);
-    is_success(a)
+    is_success(unify::unify(m, c, x, y))
 }
 
 // The first k equations of a set on top of those solved: whether there still is a solution.
 fn add_all(m: &mut [u16], c: Counts, set: &[u16], k: u16) -> bool
     ensures { AllAddedBy m.old c (list_in set.now k) m.new result }
 {
-    let mut i = 0;
-    while i < k {
+    for i in 0..k {
         let q = memory_cells::read(set, i as usize);
-        if add(m, c, q) {
-            i += 1;
-        } else {
+        if !add(m, c, q) {
             return false;
         }
     }
@@ -248,61 +196,34 @@ fn solve(m: &mut [u16], c: Counts, set: &[u16], k: u16) -> bool
 
 // ── the scans ──
 
-// Where adding stopped.
-#[derive(Clone, Copy)]
-enum Stop {
-    // At this equation there was no solution any more.
-    At(u16),
-    Nowhere,
-}
-
-// Of the equations from lo to n the one that is added with those below i left: they come from the last back.
-fn turn(lo: u16, n: u16, i: u16) -> u16
-    requires { (lo < i) × (i ≤ n) }
-    ensures { result ≡ i - 1 }
-{
-    i - 1
-}
-
 // The equations from n - 1 down to the number lo on top of those solved.
-fn back(m: &mut [u16], c: Counts, lo: u16, n: u16) -> Stop
+fn back(m: &mut [u16], c: Counts, lo: u16, n: u16) -> Option<u16>
     ensures { FellBy m.old c lo n m.new result }
 {
-    let mut i = n;
-    while lo < i {
-        let j = turn(lo, n, i);
-        if add(m, c, j) {
-            i -= 1;
-        } else {
-            return Stop::At(j);
+    for i in (lo..n).rev() {
+        if !add(m, c, i) {
+            return Some(i);
         }
     }
-    Stop::Nowhere
+    None
 }
 
 // What f) leaves of the first n equations, into a set: how many they are.
 fn scan(m: &mut [u16], c: Counts, n: u16, set: &mut [u16]) -> u16
     ensures { ScannedBy m.old c n set.old m.new set.new result }
 {
-    let mut k: u16 = 0;
     let mut lo: u16 = 0;
-    while k < n {
-        if solve(m, c, set, k) {
-            match back(m, c, lo, n) {
-                Stop::At(i) => {
-                    memory_cells::write(set, k as usize, i);
-                    lo = i + 1;
-                    k += 1;
-                }
-                Stop::Nowhere => {
-                    return k;
-                }
-            }
-        } else {
+    for k in 0..n {
+        if !solve(m, c, set, k) {
             return k;
         }
+        let Some(i) = back(m, c, lo, n) else {
+            return k;
+        };
+        memory_cells::write(set, k as usize, i);
+        lo = i + 1;
     }
-    k
+    n
 }
 
 // ── the search: one equation more, and taken back ──
@@ -321,19 +242,17 @@ enum Lead {
 fn lead_from(m: &[u16], c: Counts, y: TypeId) -> Lead
     ensures { result ≡ lead_in m.now c y.0 }
 {
-    let h = type_table::head(m, c, y);
-    if h == HEAD_ARRAY {
-        let e = type_table::element(m, c, y);
-        return Lead::On(e);
+    match type_table::head(m, c, y) {
+        HEAD_ARRAY => Lead::On(type_table::element(m, c, y)),
+        HEAD_INFER_TY => {
+            let v = type_table::var_of(m, c, y);
+            match type_table::bound_to(m, c, v) {
+                Some(x) => Lead::On(x),
+                None => Lead::Open(v),
+            }
+        }
+        _ => Lead::Nowhere,
     }
-    if h == HEAD_INFER_TY {
-        let v = type_table::var_of(m, c, y);
-        return match type_table::bound_to(m, c, v) {
-            Bound::To(x) => Lead::On(x),
-            Bound::Open => Lead::Open(v),
-        };
-    }
-    Lead::Nowhere
 }
 
 // The open variable to which the row x leads through arrays and bindings, or that there is none. As many steps as unification has suffice.
@@ -342,20 +261,13 @@ fn open_end(m: &[u16], c: Counts, x: TypeId) -> u16
 {
     let t = c.types as u64;
     let v = c.vars as u64;
-    let mut n = v * (t + t + 1) + (t + t) + 1;
+    let n = v * (t + t + 1) + (t + t) + 1;
     let mut y = x;
-    while 0 < n {
-        n -= 1;
+    for _step in 0..n {
         match lead_from(m, c, y) {
-            Lead::On(z) => {
-                y = z;
-            }
-            Lead::Open(a) => {
-                return a.0;
-            }
-            Lead::Nowhere => {
-                return NO_VAR;
-            }
+            Lead::On(z) => y = z,
+            Lead::Open(a) => return a.0,
+            Lead::Nowhere => return NO_VAR,
         }
     }
     NO_VAR
@@ -366,21 +278,13 @@ fn bound_of(m: &[u16], c: Counts, a: u16, b: u16) -> u16
     ensures { result ≡ bound_end m.now c a b }
 {
     match type_table::bound_to(m, c, VarId(a)) {
-        Bound::To(x) => a,
-        Bound::Open => b,
+        Some(_) => a,
+        None => b,
     }
 }
 
-// What came of one equation more.
-#[derive(Clone, Copy)]
-enum Pushed {
-    // There still is a solution, and at most this variable was bound.
-    Bound(u16),
-    Failed,
-}
-
 // The equation i on top of those solved.
-fn push(m: &mut [u16], c: Counts, i: u16) -> Pushed
+fn push(m: &mut [u16], c: Counts, i: u16) -> Option<u16>
     ensures { PushedBy m.old c i m.new result }
 {
     let x = expected(m, c, i);
@@ -388,10 +292,10 @@ fn push(m: &mut [u16], c: Counts, i: u16) -> Pushed
     let a = open_end(m, c, x);
     let b = open_end(m, c, y);
     if add(m, c, i) {
-        let v = bound_of(m, c, a, b);
-        return Pushed::Bound(v);
+        Some(bound_of(m, c, a, b))
+    } else {
+        None
     }
-    Pushed::Failed
 }
 
 // Those of the places from j to k of a set on top of those before them, which are solved: whether there still is a solution. What each one
@@ -399,28 +303,22 @@ fn push(m: &mut [u16], c: Counts, i: u16) -> Pushed
 fn push_from(m: &mut [u16], c: Counts, set: &[u16], bound: &mut [u16], j: u16, k: u16) -> bool
     ensures { PushedFrom m.old c set.now bound.old j k m.new bound.new result }
 {
-    let mut i = j;
-    while i < k {
+    for i in j..k {
         let q = memory_cells::read(set, i as usize);
-        match push(m, c, q) {
-            Pushed::Bound(v) => {
-                memory_cells::write(bound, i as usize, v);
-                i += 1;
-            }
-            Pushed::Failed => {
-                return false;
-            }
-        }
+        let Some(v) = push(m, c, q) else {
+            return false;
+        };
+        memory_cells::write(bound, i as usize, v);
     }
     true
 }
 
 // A variable is open again.
+#[tactic(auto, using(std::proofs::lemmas::Bool::Decides::nat_tests), unfolding(crate::specs::Searching::opened_in))]
 fn open_again(m: &mut [u16], c: Counts, v: u16)
     ensures { m.new ≡ opened_in m.old c.vars v }
 {
-    let n = c.vars;
-    if v < n {
+    if v < c.vars {
         memory_cells::write(m, v as usize * 5 + 2, 0);
     }
 }
@@ -429,11 +327,8 @@ fn open_again(m: &mut [u16], c: Counts, v: u16)
 fn pop(m: &mut [u16], c: Counts, bound: &[u16], p: u16, k: u16)
     ensures { PoppedBy m.old c bound.now p k m.new }
 {
-    let mut i = k;
-    while p < i {
-        i -= 1;
-        let v = memory_cells::read(bound, i as usize);
-        open_again(m, c, v);
+    for i in (p..k).rev() {
+        open_again(m, c, memory_cells::read(bound, i as usize));
     }
 }
 
@@ -443,42 +338,21 @@ fn pop(m: &mut [u16], c: Counts, bound: &[u16], p: u16, k: u16)
 fn is_regular(m: &[u16], c: Counts, v: VarId) -> bool
     ensures { result ≡ is_regular (kind (kinds_in m.now c) v.0) }
 {
-    match type_table::kind_of(m, c, v) {
-        Kind::Regular => true,
-        Kind::Integer => false,
-        Kind::Float => false,
-    }
+    type_table::kind_of(m, c, v) == Kind::Regular
 }
 
 // Whether variables of two kinds can be one.
 fn kinds_meet(k: Kind, l: Kind) -> bool
     ensures { result ≡ kinds_meet (kind_k k) (kind_k l) }
 {
-    match k {
-        Kind::Regular => true,
-        Kind::Integer => match l {
-            Kind::Regular => true,
-            Kind::Integer => true,
-            Kind::Float => false,
-        },
-        Kind::Float => match l {
-            Kind::Regular => true,
-            Kind::Integer => false,
-            Kind::Float => true,
-        },
-    }
+    k == l || k == Kind::Regular || l == Kind::Regular
 }
 
 // Whether two open variables are two, of kinds that can be one.
 fn can_meet(m: &[u16], c: Counts, a: VarId, b: VarId) -> bool
     ensures { result ≡ can_meet (kinds_in m.now c) a.0 b.0 }
 {
-    let i = a.0;
-    let j = b.0;
-    if i == j {
-        return false;
-    }
-    kinds_meet(type_table::kind_of(m, c, a), type_table::kind_of(m, c, b))
+    a.0 != b.0 && kinds_meet(type_table::kind_of(m, c, a), type_table::kind_of(m, c, b))
 }
 
 // Whether two rows are so free that their equation is met for certain: two open variables, or one and a type without parts.
@@ -486,14 +360,14 @@ fn is_free(m: &[u16], c: Counts, x: TypeId, y: TypeId) -> bool
     ensures { result ≡ free_in m.now c x.0 y.0 }
 {
     match lead_from(m, c, x) {
-        Lead::On(z) => false,
+        Lead::On(_) => false,
         Lead::Open(a) => match lead_from(m, c, y) {
-            Lead::On(z) => false,
+            Lead::On(_) => false,
             Lead::Open(b) => can_meet(m, c, a, b),
             Lead::Nowhere => is_regular(m, c, a),
         },
         Lead::Nowhere => match lead_from(m, c, y) {
-            Lead::On(z) => false,
+            Lead::On(_) => false,
             Lead::Open(b) => is_regular(m, c, b),
             Lead::Nowhere => false,
         },
@@ -509,13 +383,11 @@ fn test_last(m: &mut [u16], c: Counts, i: u16) -> bool
     if is_free(m, c, x, y) {
         return true;
     }
-    match push(m, c, i) {
-        Pushed::Bound(v) => {
-            open_again(m, c, v);
-            true
-        }
-        Pushed::Failed => false,
-    }
+    let Some(v) = push(m, c, i) else {
+        return false;
+    };
+    open_again(m, c, v);
+    true
 }
 
 // Whether the first k of a set have a common solution, those before j being solved: all but the last are solved then.
@@ -537,22 +409,9 @@ fn follow(set: &mut [u16], p: u16, k: u16, f: u16)
     requires { (p ≤ k) × (f + (k - p) ≤ 65535) }
     ensures { FollowedBy set.old p k f set.new }
 {
-    let mut i = p;
-    let mut x = f;
-    while i < k {
-        memory_cells::write(set, i as usize, x);
-        i += 1;
-        x += 1;
+    for i in p..k {
+        memory_cells::write(set, i as usize, f + (i - p));
     }
-}
-
-// What came of a set.
-#[derive(Clone, Copy)]
-enum Advanced {
-    // The next one, which differs from this place on.
-    From(u16),
-    // It was the last.
-    Behind,
 }
 
 // Whether the number x in the place p of k can be raised, and those behind it follow it below n.
@@ -564,19 +423,17 @@ fn can_rise(x: u16, p: u16, k: u16, n: u16) -> bool
 }
 
 // The next k numbers below n.
-fn advance(set: &mut [u16], k: u16, n: u16) -> Advanced
+fn advance(set: &mut [u16], k: u16, n: u16) -> Option<u16>
     ensures { AdvancedBy set.old k n set.new result }
 {
-    let mut p = k;
-    while 0 < p {
-        p -= 1;
+    for p in (0..k).rev() {
         let x = memory_cells::read(set, p as usize);
         if can_rise(x, p, k, n) {
             follow(set, p, k, x + 1);
-            return Advanced::From(p);
+            return Some(p);
         }
     }
-    Advanced::Behind
+    None
 }
 
 // What came of a size.
@@ -603,27 +460,18 @@ fn tries_from(
     requires { 0 < k }
     ensures { TriedBy m.old c set.old bound.old k n b m.new set.new bound.new result }
 {
-    let mut left = b;
     let mut j = 0;
-    loop {
-        if left == 0 {
-            return Tried::Out;
-        }
-        left -= 1;
-        if test_set(m, c, set, bound, j, k) {
-            match advance(set, k, n) {
-                Advanced::From(p) => {
-                    pop(m, c, bound, p, k - 1);
-                    j = p;
-                }
-                Advanced::Behind => {
-                    return Tried::Through(left);
-                }
-            }
-        } else {
+    for left in (0..b).rev() {
+        if !test_set(m, c, set, bound, j, k) {
             return Tried::Found;
         }
+        let Some(p) = advance(set, k, n) else {
+            return Tried::Through(left);
+        };
+        pop(m, c, bound, p, k - 1);
+        j = p;
     }
+    Tried::Out
 }
 
 // All of them, from the first one.
@@ -673,9 +521,8 @@ fn search(
 ) -> Searched
     ensures { SearchedBy m.old c set.old bound.old most n b m.new set.new bound.new result }
 {
-    let mut k = 1;
     let mut left = b;
-    while k < most {
+    for k in 1..most {
         match tries(m, c, set, bound, k, n, left) {
             Tried::Found => {
                 return Searched {
@@ -683,18 +530,13 @@ fn search(
                     below: k,
                 };
             }
-            Tried::Out => {
-                return out_within(k);
-            }
-            Tried::Through(d) => {
-                left = d;
-                k += 1;
-            }
+            Tried::Out => return out_within(k),
+            Tried::Through(d) => left = d,
         }
     }
     Searched {
         found: false,
-        below: k,
+        below: most.max(1),
     }
 }
 
@@ -727,23 +569,14 @@ fn put_place(out: &mut [u8], d: usize, i: u16, n: u16, x: TypeId, y: TypeId) -> 
     output::put_line(out, e, b",", y.0 as usize)
 }
 
-// Whether the place i of a set of k numbers has one of them.
-fn has_number(i: u16, k: u16) -> bool
-    ensures { result ≡ ltb i k }
-{
-    i < k
-}
-
 // A line for each of the first k numbers of a set.
 fn put_set(out: &mut [u8], m: &[u16], c: Counts, l: Lines, set: &[u16], k: u16) -> usize
     ensures { Appends (set_text (line_in m.now c l) (list_in set.now k)) 0 out.old result out.new }
 {
     let mut d = 0;
-    let mut i = 0;
-    while has_number(i, k) {
-        let q = memory_cells::read(set, i as usize);
+    for place in 0..k {
+        let q = memory_cells::read(set, place as usize);
         d = put_equation(out, d, m, c, l, q);
-        i += 1;
     }
     d
 }
@@ -764,8 +597,8 @@ fn written(out: &mut [u8], c: usize) -> Outcome
     ensures { WrittenBy c out.old result out.new }
 {
     match output::finish(out, c) {
-        Ending::At(n) => Outcome::Written(n),
-        Ending::Full => Outcome::NoRoom,
+        Some(n) => Outcome::Written(n),
+        None => Outcome::NoRoom,
     }
 }
 
@@ -809,12 +642,11 @@ fn put_searched(
 ) -> Outcome
     ensures { SearchedPut m.now c l set.now k subset.now s out.old result out.new }
 {
-    let b = s.below;
-    let f = s.found;
-    if f {
-        return put_below(out, m, c, l, subset, b, b);
+    if s.found {
+        put_below(out, m, c, l, subset, s.below, s.below)
+    } else {
+        put_below(out, m, c, l, set, k, s.below)
     }
-    put_below(out, m, c, l, set, k, b)
 }
 
 // A shortest conflict of the first n equations, with b subsets that may be tested.
@@ -852,14 +684,9 @@ fn put_sought(m: &mut [u16], c: Counts, n: u16, q: Sought, out: &mut [u8]) -> Ou
 pub fn conflict_in(m: &mut [u16], r: Record, q: Sought, out: &mut [u8]) -> Outcome
     ensures { ConflictBy m.old r.counts r.equations q out.old m.new result out.new }
 {
-    let c = r.counts;
-    let e = r.equations;
-    let n = worked(m, e);
-    if n == 0 {
+    let n = worked(m, r.equations);
+    if n == 0 || !all_plain(m, r.counts, n) {
         return nothing(out);
     }
-    if all_plain(m, c, n) {
-        return put_sought(m, c, n, q, out);
-    }
-    nothing(out)
+    put_sought(m, r.counts, n, q, out)
 }

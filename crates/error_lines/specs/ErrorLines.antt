@@ -1,18 +1,17 @@
 -- The lines of the errors in document 01's report, each as a list of bytes, by the rows of the errors. Definitions alone.
-use Rattle.std.specs.Prelude.{List, [], ◌∷◌, ◌++◌, ℕ, length}
+use Rattle.std.specs.Prelude.{List, [], ◌∷◌, ◌++◌, ℕ, length, None, Option, Some}
 use Rattle.lex.specs.Text.{text}
 use Rattle.record.specs.declared.ErrorKind.{ErrorKind}
 use Rattle.record.specs.declared.ErrorKind.TheVariants as error
 use Rattle.record.specs.declared.Span.{Span}
 use Rattle.record.specs.declared.Span.TheVariants as span
-use Rattle.record.specs.declared.Second.{Second}
-use Rattle.record.specs.declared.Second.TheVariants as second
 use Rattle.record.specs.declared.TypingError.{TypingError}
 use Rattle.record.specs.Own.{kind_number}
 use Rattle.errors.specs.declared.ErrorRow.{ErrorRow}
 use Rattle.errors.specs.Rows.{error_of}
 use Rattle.tables.specs.Rows.{cells_to}
 use Rattle.output.specs.Output.{number_text, newline}
+use Rattle.type_table.specs.declared.NodeId.{NodeId}
 
 -- numbers, each after a comma
 unfoldable pub each_text : List ℕ → List ℕ
@@ -28,9 +27,9 @@ span_text (span.Item d) = text "d" ++ number_text d.0
 span_text span.Signature = text "sig"
 
 -- Q is the second of `Span::between` or `-`
-abbrev pub second_text : Second → List ℕ
-second_text (second.At n) = number_text n.0
-second_text second.Absent = text "-"
+abbrev pub second_text : Option NodeId → List ℕ
+second_text (Some n) = number_text n.0
+second_text None = text "-"
 
 -- the values of an error: the fields of its variant in order; InferFail has none
 abbrev pub values_of : ErrorKind → ℕ → ℕ → ℕ → List ℕ

@@ -11,6 +11,7 @@ ghost use Rattle.error_lines.specs.ErrorLines.{each_text, span_text, second_text
 use errors::ErrorRow;
 
 // P, by its tag and its number.
+#[tactic(auto, unfolding(record::specs::Own::span_of))]
 fn put_span(out: &mut [u8], c: usize, p: u16, n: usize) -> usize
     ensures { Appends (text "," ++ span_text (span_of p n)) c out.old result out.new }
 {
@@ -22,30 +23,26 @@ fn put_span(out: &mut [u8], c: usize, p: u16, n: usize) -> usize
 }
 
 // Q, by its flag and its number.
+#[tactic(auto, unfolding(record::specs::Own::second_of))]
 fn put_second(out: &mut [u8], c: usize, q: u16, n: usize) -> usize
     ensures { Appends (text "," ++ second_text (second_of q n)) c out.old result out.new }
 {
     if q == 0 {
-        return output::put_all(out, c, b",-");
+        output::put_all(out, c, b",-")
+    } else {
+        output::put_field(out, c, b",", n)
     }
-    output::put_field(out, c, b",", n)
 }
 
 // How many values an error of this kind has.
+#[tactic(auto, unfolding(record::specs::Own::kind_at))]
 fn values(k: u16) -> u16
     ensures { result ≡ value_count (kind_at k) }
 {
     match k {
-        0 => 2,
-        1 => 1,
-        2 => 1,
-        3 => 2,
-        4 => 1,
         5 => 3,
-        6 => 2,
-        7 => 2,
-        8 => 1,
-        9 => 2,
+        0 | 3 | 6 | 7 | 9 => 2,
+        1 | 2 | 4 | 8 => 1,
         _ => 0,
     }
 }
@@ -72,21 +69,18 @@ fn put_values(out: &mut [u8], c: usize, r: ErrorRow, n: u16) -> usize
 fn put_place(out: &mut [u8], c: usize, r: ErrorRow) -> usize
     ensures { Appends (place_text (error_of r)) c out.old result out.new }
 {
-    let p = r.span;
-    let q = r.between;
-    let d = put_span(out, c, p, r.at as usize);
-    put_second(out, d, q, r.second as usize)
+    let d = put_span(out, c, r.span, r.at as usize);
+    put_second(out, d, r.between, r.second as usize)
 }
 
 // An error, by its row.
 pub fn put_error(out: &mut [u8], c: usize, r: ErrorRow) -> usize
     ensures { Appends (error_line r) c out.old result out.new }
 {
-    let k = r.kind;
-    let a = output::put_field(out, c, b"error=", errors::kind_number(k) as usize);
+    let a = output::put_field(out, c, b"error=", errors::kind_number(r.kind) as usize);
     let b = output::put_field(out, a, b",", r.cause as usize);
     let d = put_place(out, b, r);
-    let e = put_values(out, d, r, values(k));
+    let e = put_values(out, d, r, values(r.kind));
     output::put(out, e, b'\n')
 }
 
@@ -95,11 +89,9 @@ pub fn put_errors(out: &mut [u8], c: usize, m: &[u16], n: u16) -> usize
     ensures { Appends (error_lines (row_in m.now n) n) c out.old result out.new }
 {
     let mut d = output::put_line(out, c, b"errors=", n as usize);
-    let mut i: u16 = 0;
-    while i < n {
+    for i in 0..n {
         let r = errors::error_row(m, n, i as usize);
         d = put_error(out, d, r);
-        i += 1;
     }
     d
 }

@@ -1,7 +1,8 @@
 -- What each return of a function that reads an error shows, over plain variables. Assumes nothing.
-use mathlib.Core.Path.{◌≡◌, refl, sym}
+use mathlib.Core.Path.{◌≡◌, refl, sym, ◌∙◌}
 use mathlib.Core.List.{List}
-use Prim.Native.Nat.{ℕ, suc, zero, ◌+◌, ◌*◌, ◌≤◌, ◌<◌}
+use native.Mathlib.Decide.{dec_lt}
+use Prim.Native.Nat.{ℕ, suc, zero, min, ◌+◌, ◌*◌, ◌≤◌, ◌<◌}
 use native.Mathlib.Omega.{arith}
 use borrow.Author.Tests.{eq-eqb, ne_eqb, lt-ltb, le-ltb}
 use Rattle.type_table.specs.Memory.{cell}
@@ -32,22 +33,34 @@ unfolding kind_at
 kind_high k h =
     rw (ne_eqb k 0 (λ q. omega arith), ne_eqb k 1 (λ q. omega arith), ne_eqb k 2 (λ q. omega arith), ne_eqb k 3 (λ q. omega arith), ne_eqb k 4 (λ q. omega arith), ne_eqb k 5 (λ q. omega arith), ne_eqb k 6 (λ q. omega arith), ne_eqb k 7 (λ q. omega arith), ne_eqb k 8 (λ q. omega arith), ne_eqb k 9 (λ q. omega arith))
 
+-- both
+pub kind_min : (k r : ℕ) → r ≡ min k 10 → r ≡ kind_number (kind_at k)
+kind_min k r e = by (dec_lt k 10)
+  where
+    by : Dec (k < 10) → r ≡ kind_number (kind_at k)
+    by (yes h) = let i : r ≡ k = omega arith in i ∙ kind_low k h
+    by (no h) = let i : r ≡ 10 = omega arith in i ∙ kind_high k (omega arith)
+
 -- ── P and Q ──
 
--- P is a node
-pub span_node : (p x : ℕ) → p ≡ 0 → (0 ≡ span_tag (span_of p x)) × (x ≡ span_value (span_of p x))
+-- the tag of P
+pub span_min : (p x r : ℕ) → r ≡ min p 2 → r ≡ span_tag (span_of p x)
 unfolding span_of
-span_node p x e = rw (eq-eqb p 0 e) (refl, refl)
+span_min zero x r e = omega arith
+span_min (suc zero) x r e = omega arith
+span_min (suc (suc p)) x r e = rw (ne_eqb (suc (suc p)) 0 (λ q. omega arith), ne_eqb (suc (suc p)) 1 (λ q. omega arith)) (omega arith)
 
--- P is a bind item
-pub span_item : (p x : ℕ) → p ≡ 1 → (1 ≡ span_tag (span_of p x)) × (x ≡ span_value (span_of p x))
+-- a node or a bind item has a number
+pub span_low : (p x : ℕ) → p < 2 → x ≡ span_value (span_of p x)
 unfolding span_of
-span_item p x e = rw (ne_eqb p 0 (λ z. omega arith), eq-eqb p 1 e) (refl, refl)
+span_low zero x h = refl
+span_low (suc zero) x h = refl
+span_low (suc (suc p)) x h = absurd (omega arith)
 
--- P is the signature
-pub span_signature : (p x : ℕ) → ((Unit {0} × (p ≡ 0 → ⊥)) × (p ≡ 1 → ⊥)) → (2 ≡ span_tag (span_of p x)) × (0 ≡ span_value (span_of p x))
+-- the signature has none
+pub span_high : (p x : ℕ) → 2 ≤ p → 0 ≡ span_value (span_of p x)
 unfolding span_of
-span_signature p x h = rw (ne_eqb p 0 h.0.1, ne_eqb p 1 h.1) (refl, refl)
+span_high p x h = rw (ne_eqb p 0 (λ q. omega arith), ne_eqb p 1 (λ q. omega arith)) refl
 
 -- there is no Q
 pub second_none : (q x : ℕ) → q ≡ 0 → (0 ≡ second_tag (second_of q x)) × (0 ≡ second_value (second_of q x))

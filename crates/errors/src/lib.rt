@@ -3,9 +3,10 @@
 #![tactic(auto)]
 
 ghost use Rattle.std.specs.Prelude.{◌≡◌, get_or, set};
-ghost use Rattle.type_table.specs.Memory.{cell};
 ghost use Rattle.record.specs.Own.{kind_number, kind_at, span_tag, span_value, span_of, second_tag, second_value, second_of};
 ghost use Rattle.errors.specs.Rows.{zero_row, row_in, filled_to};
+
+use memory_cells::read;
 
 // An error as it is handed back: KIND, CAUSE, P by its tag (0 a node, 1 a bind item, 2 the signature) and its number, 1 if there is a Q, Q, and
 // three values; those that its kind does not have are 0.
@@ -25,40 +26,25 @@ pub struct ErrorRow {
 
 // ── from the memory ──
 
-// The cell i; 0 past the end.
-fn read(m: &[u16], i: usize) -> u16
-    ensures { result ≡ cell m.now i }
-{
-    if i < m.len() { m[i] } else { 0 }
-}
-
 // KIND; what is no position counts as the last.
 pub fn kind_number(k: u16) -> u16
     ensures { result ≡ kind_number (kind_at k) }
 {
-    if k < 10 { k } else { 10 }
+    k.min(10)
 }
 
 // The tag of P.
 fn span_tag(p: u16, x: u16) -> u16
     ensures { result ≡ span_tag (span_of p x) }
 {
-    match p {
-        0 => 0,
-        1 => 1,
-        _ => 2,
-    }
+    p.min(2)
 }
 
 // The number of P; the signature has none.
 fn span_number(p: u16, x: u16) -> u16
     ensures { result ≡ span_value (span_of p x) }
 {
-    match p {
-        0 => x,
-        1 => x,
-        _ => 0,
-    }
+    if p < 2 { x } else { 0 }
 }
 
 // 1 if there is a Q.
@@ -96,29 +82,22 @@ pub fn no_error() -> ErrorRow
 pub fn error_row(m: &[u16], n: u16, i: usize) -> ErrorRow
     ensures { result ≡ row_in m.now n i }
 {
-    if n as usize <= i {
+    if i >= n as usize {
         return no_error();
     }
     let f = record::ERRORS_AT + i * 9;
-    let k = read(m, f);
-    let cause = read(m, f + 1);
-    let p = read(m, f + 2);
-    let x = read(m, f + 3);
-    let q = read(m, f + 4);
-    let y = read(m, f + 5);
-    let a = read(m, f + 6);
-    let b = read(m, f + 7);
-    let c = read(m, f + 8);
+    let (p, x) = (read(m, f + 2), read(m, f + 3));
+    let (q, y) = (read(m, f + 4), read(m, f + 5));
     ErrorRow {
-        kind: kind_number(k),
-        cause: cause,
+        kind: kind_number(read(m, f)),
+        cause: read(m, f + 1),
         span: span_tag(p, x),
         at: span_number(p, x),
         between: second_tag(q, y),
         second: second_number(q, y),
-        a: a,
-        b: b,
-        c: c,
+        a: read(m, f + 6),
+        b: read(m, f + 7),
+        c: read(m, f + 8),
     }
 }
 
@@ -133,39 +112,21 @@ pub fn append_error(errors: &mut [ErrorRow], i: usize, r: ErrorRow)
     }
 }
 
-// The first `end` rows, from the memory of a walk with n errors: those of the errors, zeros behind them. The zeros have a loop of their own, which ends
-// with the last row at the latest: so the compiler leaves out the test for room in it, and makes it one clearing of memory.
+// The first `end` rows, from the memory of a walk with n errors: those of the errors, zeros behind them.
 pub fn fill_errors(errors: &mut [ErrorRow], m: &[u16], n: u16, end: usize)
     ensures { errors.new ≡ filled_to errors.old (row_in m.now n) end }
 {
-    let mut stop = errors.len();
-    if end < stop {
-        stop = end;
+    let stop = errors.len().min(end);
+    let used = stop.min(n as usize);
+    for i in 0..used {
+        append_error(errors, i, error_row(m, n, i));
     }
-    let mut used = n as usize;
-    if stop < used {
-        used = stop;
-    }
-    let z = no_error();
-    let mut i = 0;
-    while i < used {
-        let r = error_row(m, n, i);
-        append_error(errors, i, r);
-        i += 1;
-    }
-    while i < stop {
-        append_error(errors, i, z);
-        i += 1;
-    }
+    errors[used..stop].fill(no_error());
 }
 
 // The row i of a table; zeros past the last.
 pub fn error_at(errors: &[ErrorRow], i: usize) -> ErrorRow
     ensures { result ≡ get_or errors.now i zero_row }
 {
-    if i < errors.len() {
-        errors[i]
-    } else {
-        no_error()
-    }
+    errors.get(i).copied().unwrap_or(no_error())
 }

@@ -1,37 +1,25 @@
 -- What each return and turn of a function over rows as numbers shows, over plain variables. Assumes nothing.
-use mathlib.Core.Path.{◌≡◌, refl, sym, ap, ◌∙◌}
-use mathlib.Core.List.{List, [], ◌∷◌}
-use Prim.Native.Nat.{ℕ, zero, suc, ◌+◌, ◌*◌, ◌/◌, ◌≤◌, ◌<◌}
+use mathlib.Core.Path.{◌≡◌, refl, sym, ◌∙◌}
+use mathlib.Core.List.{List, []}
+use Prim.Native.Nat.{ℕ, zero, suc, ◌+◌, ◌*◌, ◌≤◌, ◌<◌}
 use native.Mathlib.Omega.{arith}
 use native.Mathlib.Numerals.{add-one, towards_suc}
-use lib.ListN.{length, set, get_or, replicate, length-replicate}
-use lib.Seq.{sets, set-get_or}
-use Rattle.type_table.specs.Memory.{cell}
+use lib.ListN.{length, replicate, length-replicate}
+use lib.Seq.{sets, sets-eq, set-get_or}
+use Rattle.std.proofs.lemmas.Slice.{put_mid-paste}
+use borrow.Rule.Slice.PartMut.{put_mid}
 use Rattle.errors.specs.declared.ErrorRow.{ErrorRow}
 use Rattle.errors.specs.Rows.{zero_row, row_at, row_in, filled_to}
 use Rattle.errors.specs.Filling.{filled_at, length-filled}
 use Rattle.answers.specs.declared.Answer.{Answer}
 use Rattle.answers.specs.declared.Answer.TheVariants as answer
-use Rattle.answers.specs.Lent.{Lent, lent, errors_used, errors_end, errors_handed, memory_ended, lent_with}
+use Rattle.answers.specs.Lent.{Lent, lent, errors_used, errors_end, errors_handed, memory_ended}
 use Rattle.report_text.specs.declared.Reported.{Reported}
 use Rattle.report_text.specs.Written.{checked_answer}
-use Rattle.report.specs.Report.{told, report_of}
 use Rattle.report.specs.Parts.{TablesReported}
 use Rattle.flat_report.specs.Flat.{row_from, row_numbers, rows_from, rows_in, put_rows, Flat}
 
 -- ── a row ──
-
--- nine stores are a row
-nine_stores : (t : List ℕ) (f : ℕ) (r : ErrorRow)
-    → set (set (set (set (set (set (set (set (set t f r.kind) (f + 1) r.cause) (f + 2) r.span) (f + 3) r.at) (f + 4) r.between) (f + 5) r.second) (f + 6) r.a) (f + 7) r.b) (f + 8) r.c
-    ≡ sets t f (row_numbers r)
-nine_stores t f r = simp towards_suc
-
--- the row that was written
-pub row_put : (t t₀ t₁ t₂ t₃ t₄ t₅ t₆ t₇ t₈ : List ℕ) (f : ℕ) (r : ErrorRow) → t₀ ≡ set t f r.kind → t₁ ≡ set t₀ (f + 1) r.cause → t₂ ≡ set t₁ (f + 2) r.span
-    → t₃ ≡ set t₂ (f + 3) r.at → t₄ ≡ set t₃ (f + 4) r.between → t₅ ≡ set t₄ (f + 5) r.second → t₆ ≡ set t₅ (f + 6) r.a → t₇ ≡ set t₆ (f + 7) r.b → t₈ ≡ set t₇ (f + 8) r.c
-    → t₈ ≡ sets t f (row_numbers r)
-row_put t t₀ t₁ t₂ t₃ t₄ t₅ t₆ t₇ t₈ f r p₀ p₁ p₂ p₃ p₄ p₅ p₆ p₇ p₈ = rw (p₈, p₇, p₆, p₅, p₄, p₃, p₂, p₁, p₀) (nine_stores t f r)
 
 -- a row that is written where it was read changes nothing
 row_back : (t : List ℕ) (i : ℕ) → sets t (i * 9) (row_numbers (row_from t i)) ≡ t
@@ -45,17 +33,11 @@ pub put_none : (t : List ℕ) (f : ℕ → ErrorRow) → t ≡ put_rows t f 0
 unfolding put_rows
 put_none t f = refl
 
--- one row more
-pub put_more : (t u w : List ℕ) (f : ℕ → ErrorRow) (r : ErrorRow) (i k : ℕ) → u ≡ put_rows t f i → r ≡ f i → k ≡ i * 9 → w ≡ sets u k (row_numbers r) → w ≡ put_rows t f (i + 1)
+-- one row more, copied over its nine numbers
+pub put_more : (t u v : List ℕ) (f : ℕ → ErrorRow) (r : ErrorRow) (i k : ℕ) → u ≡ put_rows t f i → r ≡ f i → v ≡ row_numbers r → k ≡ 9 → i * 9 + 9 ≤ length u
+    → put_mid (i * 9) k u v ≡ put_rows t f (i + 1)
 unfolding put_rows
-put_more t u w f r i k p e q h = rw (add-one i, ← p, ← e, ← q) h
-
--- the rows that were asked for
-pub put-done : (t u : List ℕ) (f : ℕ → ErrorRow) (i n : ℕ) → i ≤ n → n ≤ i → u ≡ put_rows t f i → u ≡ put_rows t f n
-put-done t u f i n a b p = p ∙ ap (put_rows t f) (meet a b)
-  where
-    meet : i ≤ n → n ≤ i → i ≡ n
-    meet a b = omega arith
+put_more t u v f r i k p e w q h = put_mid-paste (i * 9) k u v (row_numbers r) 9 w (sym q) refl ∙ sym (sets-eq (row_numbers r) u (i * 9) h) ∙ rw (add-one i, ← p, ← e) refl
 
 -- the same rows
 put_same : (t : List ℕ) (f g : ℕ → ErrorRow) (n : ℕ) → ((i : ℕ) → i < n → f i ≡ g i) → put_rows t f n ≡ put_rows t g n

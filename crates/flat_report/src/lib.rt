@@ -1,8 +1,7 @@
 // The report of a file with the errors in a slice of numbers, nine for each row: for a program that lends numbers alone.
 #![tactic(auto)]
 
-ghost use Rattle.std.specs.Prelude.{◌≡◌, ◌+◌, ◌*◌, ◌≤◌, length, set};
-ghost use Rattle.std.proofs.lemmas.List.Edits.{sets};
+ghost use Rattle.std.specs.Prelude.{◌≡◌, ◌*◌, ◌≤◌, length};
 ghost use Rattle.errors.specs.Rows.{row_in};
 ghost use Rattle.flat_report.specs.Flat.{row_numbers, put_rows, Flat};
 
@@ -14,29 +13,13 @@ pub const ERRORS: usize = 36864;
 
 // ── rows and numbers ──
 
-// Writes the number i. Without room nothing changes.
-fn put(t: &mut [u16], i: usize, x: u16)
-    ensures { t.new ≡ set t.old i x }
+// The numbers of a row.
+fn numbers(r: ErrorRow) -> [u16; 9]
+    ensures { result ≡ row_numbers r }
 {
-    if i < t.len() {
-        t[i] = x;
-    }
-}
-
-// Writes the nine numbers of a row from f on.
-fn put_row(t: &mut [u16], f: usize, r: ErrorRow)
-    requires { f ≤ length t.old }
-    ensures { t.new ≡ sets t.old f (row_numbers r) }
-{
-    put(t, f, r.kind);
-    put(t, f + 1, r.cause);
-    put(t, f + 2, r.span);
-    put(t, f + 3, r.at);
-    put(t, f + 4, r.between);
-    put(t, f + 5, r.second);
-    put(t, f + 6, r.a);
-    put(t, f + 7, r.b);
-    put(t, f + 8, r.c);
+    [
+        r.kind, r.cause, r.span, r.at, r.between, r.second, r.a, r.b, r.c,
+    ]
 }
 
 // Writes the first `end` rows as numbers, from the memory of a walk with n errors: those of the errors, zeros behind them.
@@ -44,13 +27,9 @@ fn put_errors(t: &mut [u16], m: &[u16], n: u16, end: usize)
     requires { end * 9 ≤ length t.old }
     ensures { t.new ≡ put_rows t.old (row_in m.now n) end }
 {
-    let mut i = 0;
-    let mut f = 0;
-    while i < end {
-        let r = errors::error_row(m, n, i);
-        put_row(t, f, r);
-        f += 9;
-        i += 1;
+    for i in 0..end {
+        let row = numbers(errors::error_row(m, n, i));
+        t[i * 9..i * 9 + 9].copy_from_slice(&row);
     }
 }
 

@@ -1,24 +1,14 @@
 -- The line forms: the kinds of each form's fields, what a field of each kind holds, and the cells of a line's fields.
 -- Assumes nothing.
-use Rattle.std.specs.Prelude.{ℕ, suc, ◌+◌, ◌*◌, ◌/◌, List, [], ◌∷◌, Bool, true, false, cond, leb, ltb, eqb, length, get_or, take, drop}
+use Rattle.std.specs.Prelude.{ℕ, suc, ◌+◌, ◌*◌, ◌/◌, List, [], ◌∷◌, Bool, true, false, cond, leb, ltb, eqb, length, get_or, take, drop, Err, None, Ok, Option, Result, Some}
 use Prim.Native.String.{String}
 use Prim.Native.Char.{code}
 use Rattle.std.proofs.lemmas.List.Edits.{sets}
 use Rattle.lex.specs.Text.{number_of, before, fields_from, text, same}
-use Rattle.lex.specs.declared.Num.{Num}
-use Rattle.lex.specs.declared.Num.TheVariants as num
 use Rattle.forms.specs.declared.Form.{Form}
 use Rattle.forms.specs.declared.Cell.{Cell}
-use Rattle.forms.specs.declared.Read.{Read}
-use Rattle.forms.specs.declared.Read.TheVariants.{Is, Bad}
-use Rattle.forms.specs.declared.Taken.{Taken}
-use Rattle.forms.specs.declared.Taken.TheVariants as taken
-use Rattle.forms.specs.declared.Got.{Got}
-use Rattle.forms.specs.declared.Got.TheVariants as got
 use Rattle.forms.specs.declared.Fault.{Fault}
 use Rattle.forms.specs.declared.Fault.TheVariants as fault
-use Rattle.forms.specs.declared.Line.{Line}
-use Rattle.forms.specs.declared.Line.TheVariants as line
 
 -- the keys, in the order in which they come
 abbrev pub key_type : ℕ
@@ -212,34 +202,34 @@ abbrev pub cell : ℕ → ℕ → ℕ → Cell
 cell a b n = record { name = a; tag = b; value = n }
 
 -- a number with a tag
-abbrev pub valued : ℕ → Num → Read
-valued b (num.Is n) = Is (cell 0 b n)
-valued b num.Bad = Bad
+abbrev pub valued : ℕ → Option ℕ → Option Cell
+valued b (Some n) = Some (cell 0 b n)
+valued b None = None
 
 -- a name before what stands behind it
-abbrev pub named : Num → Read → Read
-named (num.Is a) (Is c) = Is (cell a c.tag c.value)
-named (num.Is a) Bad = Bad
-named num.Bad r = Bad
+abbrev pub named : Option ℕ → Option Cell → Option Cell
+named (Some a) (Some c) = Some (cell a c.tag c.value)
+named (Some a) None = None
+named None r = None
 
 -- the letter that a field is, 0 where it is no single letter
 unfoldable pub letter_of : List ℕ → ℕ
 letter_of s = cond (eqb (length s) 1) (get_or s 0 0) 0
 
 -- `-` or a number
-unfoldable pub optional_of : ℕ → List ℕ → Read
-optional_of x s = cond (eqb x (code "-")) (Is (cell 0 0 0)) (valued 1 (number_of s))
+unfoldable pub optional_of : ℕ → List ℕ → Option Cell
+optional_of x s = cond (eqb x (code "-")) (Some (cell 0 0 0)) (valued 1 (number_of s))
 
 -- b c a
-unfoldable pub binary_of : ℕ → Read
+unfoldable pub binary_of : ℕ → Option Cell
 binary_of x =
-    cond (eqb x (code "b")) (Is (cell 0 1 0)) (cond (eqb x (code "c")) (Is (cell 0 1 1)) (cond (eqb x (code "a")) (Is (cell 0 1 2)) Bad))
+    cond (eqb x (code "b")) (Some (cell 0 1 0)) (cond (eqb x (code "c")) (Some (cell 0 1 1)) (cond (eqb x (code "a")) (Some (cell 0 1 2)) None))
 
 -- d r n t
-unfoldable pub unary_of : ℕ → Read
+unfoldable pub unary_of : ℕ → Option Cell
 unary_of x =
-    cond (eqb x (code "d")) (Is (cell 0 1 0))
-    (cond (eqb x (code "r")) (Is (cell 0 1 1)) (cond (eqb x (code "n")) (Is (cell 0 1 2)) (cond (eqb x (code "t")) (Is (cell 0 1 3)) Bad)))
+    cond (eqb x (code "d")) (Some (cell 0 1 0))
+    (cond (eqb x (code "r")) (Some (cell 0 1 1)) (cond (eqb x (code "n")) (Some (cell 0 1 2)) (cond (eqb x (code "t")) (Some (cell 0 1 3)) None)))
 
 -- the tag of a first letter, 0 of another than l f c i e o
 unfoldable pub tag_of : ℕ → ℕ
@@ -247,27 +237,27 @@ tag_of x =
     cond (eqb x (code "l")) 1 (cond (eqb x (code "f")) 2 (cond (eqb x (code "c")) 3 (cond (eqb x (code "i")) 4 (cond (eqb x (code "e")) 5 (cond (eqb x (code "o")) 6 0)))))
 
 -- lN fD cD iK e o
-unfoldable pub tagged_of : ℕ → List ℕ → Read
+unfoldable pub tagged_of : ℕ → List ℕ → Option Cell
 tagged_of b s =
-    cond (eqb b 0) Bad
+    cond (eqb b 0) None
     (cond (leb b 4) (valued b (number_of (drop 1 s)))
-    (cond (eqb (length s) 1) (Is (cell 0 b 0)) Bad))
+    (cond (eqb (length s) 1) (Some (cell 0 b 0)) None))
 
 -- RES
-abbrev pub resolution_of : List ℕ → Read
+abbrev pub resolution_of : List ℕ → Option Cell
 resolution_of s = tagged_of (tag_of (get_or s 0 0)) s
 
 -- what stands behind a name: RES where p, else a number
-abbrev pub behind_of : Bool → List ℕ → Read
+abbrev pub behind_of : Bool → List ℕ → Option Cell
 behind_of true s = resolution_of s
 behind_of false s = valued 1 (number_of s)
 
 -- NAME:RES where p, else NAME:NUMBER
-unfoldable pub pair_of : Bool → List ℕ → Read
+unfoldable pub pair_of : Bool → List ℕ → Option Cell
 pair_of p s = named (number_of (take (before 58 s) s)) (behind_of p (drop (before 58 s + 1) s))
 
 -- a field, by the way in which it is written
-unfoldable pub read_as : ℕ → List ℕ → Read
+unfoldable pub read_as : ℕ → List ℕ → Option Cell
 read_as c s =
     cond (eqb c 1) (valued 1 (number_of s))
     (cond (eqb c 2) (optional_of (letter_of s) s)
@@ -275,35 +265,35 @@ read_as c s =
     (cond (eqb c 4) (binary_of (letter_of s))
     (cond (eqb c 5) (unary_of (letter_of s))
     (cond (eqb c 6) (resolution_of s)
-    (cond (eqb c 7) (pair_of true s) Bad))))))
+    (cond (eqb c 7) (pair_of true s) None))))))
 
 -- a field of a kind
-abbrev pub read_of : ℕ → List ℕ → Read
+abbrev pub read_of : ℕ → List ℕ → Option Cell
 read_of k s = read_as (k / 16) s
 
 -- what a field holds, with the place e of its end
-abbrev pub ending : ℕ → Read → Taken
-ending e (Is c) = taken.Is c e
-ending e Bad = taken.Bad
+abbrev pub ending : ℕ → Option Cell → Option (Cell × ℕ)
+ending e (Some c) = Some (c, e)
+ending e None = None
 
 -- the field of the kind k from the place p on
-unfoldable pub field_at : ℕ → List ℕ → ℕ → Taken
+unfoldable pub field_at : ℕ → List ℕ → ℕ → Option (Cell × ℕ)
 field_at k v p = ending (p + before 44 (drop p v)) (read_of k (take (before 44 (drop p v)) (drop p v)))
 
 -- where it ends, p where it is not of its kind
-abbrev pub end_in : ℕ → Taken → ℕ
-end_in p (taken.Is c e) = e
-end_in p taken.Bad = p
+abbrev pub end_in : ℕ → Option (Cell × ℕ) → ℕ
+end_in p (Some (c, e)) = e
+end_in p None = p
 
 -- the cells of some fields: of all, or of those before the first that is not of its kind
 pub data Cells : Type 0 where
   refused : List Cell → Cells
   cells : List Cell → Cells
 
-abbrev pub prepend : Read → Cells → Cells
-prepend Bad r = refused []
-prepend (Is c) (refused l) = refused (c ∷ l)
-prepend (Is c) (cells l) = cells (c ∷ l)
+abbrev pub prepend : Option Cell → Cells → Cells
+prepend None r = refused []
+prepend (Some c) (refused l) = refused (c ∷ l)
+prepend (Some c) (cells l) = cells (c ∷ l)
 
 -- the cells of a line's fields from field i on
 unfoldable pub cells_from : Form → ℕ → List (List ℕ) → Cells
@@ -320,13 +310,13 @@ unfoldable pub start_of : ℕ → ℕ → ℕ → ℕ
 start_of k n e = cond (eqb k key_type) (e + 1) (cond (eqb k key_node) (e + 1) (cond (eqb n 0) 1 0))
 
 -- 3 where a field is missing, 4 where there are too many
-unfoldable pub count_of : ℕ → Form → ℕ → Line
-count_of i f n = cond (ltb n f.4) (line.Fault fault.Form) (cond (ltb f.5 n) (line.Fault fault.Limit) (line.Row i n))
+unfoldable pub count_of : ℕ → Form → ℕ → Result (ℕ × ℕ) Fault
+count_of i f n = cond (ltb n f.4) (Err fault.Form) (cond (ltb f.5 n) (Err fault.Limit) (Ok (i, n)))
 
 -- the cells of a line of as many fields as the form has
-abbrev pub with_cells : Line → List Cell → Parsed
-with_cells (line.Fault x) l = wrong x l
-with_cells (line.Row i n) l = parsed i l
+abbrev pub with_cells : Result (ℕ × ℕ) Fault → List Cell → Parsed
+with_cells (Err x) l = wrong x l
+with_cells (Ok (i, n)) l = parsed i l
 
 abbrev pub counted : ℕ → Form → Cells → Parsed
 counted i f (refused l) = wrong fault.Form l
@@ -366,13 +356,13 @@ unfoldable pub fill : ℕ → List ℕ → ℕ → Cells → Filled
 fill i t j (refused l) = unfilled (store_from t j l)
 fill i t j (cells l) = filled (i + length l) (store_from t j l)
 
-abbrev pub count_in : Got → ℕ
-count_in got.Bad = 0
-count_in (got.Count n) = n
+abbrev pub count_in : Option ℕ → ℕ
+count_in None = 0
+count_in (Some n) = n
 
-abbrev pub outcome : Got → List ℕ → Filled
-outcome got.Bad t = unfilled t
-outcome (got.Count n) t = filled n t
+abbrev pub outcome : Option ℕ → List ℕ → Filled
+outcome None t = unfilled t
+outcome (Some n) t = filled n t
 
 -- a line that was read: the fault, or the form's number and the number of fields, and the table
 pub data Laid : Type 0 where
@@ -384,10 +374,10 @@ abbrev pub lay : Parsed → List ℕ → ℕ → Laid
 lay (wrong x l) t j = faulty x (store_from t j l)
 lay (parsed i l) t j = laid i (length l) (store_from t j l)
 
-abbrev pub shown : Line → List ℕ → Laid
-shown (line.Fault x) t = faulty x t
-shown (line.Row i n) t = laid i n t
+abbrev pub shown : Result (ℕ × ℕ) Fault → List ℕ → Laid
+shown (Err x) t = faulty x t
+shown (Ok (i, n)) t = laid i n t
 
-abbrev pub width_of : Line → ℕ
-width_of (line.Fault x) = 0
-width_of (line.Row i n) = n
+abbrev pub width_of : Result (ℕ × ℕ) Fault → ℕ
+width_of (Err x) = 0
+width_of (Ok (i, n)) = n

@@ -2,12 +2,9 @@
 #![tactic(auto)]
 
 ghost use Rattle.std.specs.Prelude.{◌≡◌, ◌+◌, ◌≤◌, ◌<◌, length, take, drop};
-ghost use Rattle.lex.specs.declared.Num.TheVariants as num;
 ghost use Rattle.lex.specs.Text.{number_of, before, fields_from};
-ghost use Rattle.forms.specs.Form.{forms as forms·T, key_type, key_node, key_of, form_at, kind_at, read_as, read_of, optional_of, binary_of, unary_of, resolution_of, pair_of, behind_of, store, field_at, end_in, cells_from, fill, outcome, letter_of, tag_of, tagged_of, named, count_of, start_of, shown, lay, line_of, count_in, width_of};
+ghost use Rattle.forms.specs.Form.{forms as forms·T, key_type, key_node, key_of, form_at, kind_at, read_of, optional_of, binary_of, unary_of, resolution_of, pair_of, behind_of, store, field_at, end_in, cells_from, fill, outcome, letter_of, tag_of, tagged_of, count_of, start_of, shown, lay, line_of, count_in, width_of};
 ghost use Rattle.forms.specs.Words.{key_numbered, index_numbered};
-
-use lex::{Field, Num};
 
 // The keys, in the order in which they come. NO_KEY is any other word.
 pub const KEY_TYPE: u8 = 0;
@@ -137,26 +134,6 @@ pub struct Cell {
     pub value: u16,
 }
 
-#[derive(Clone, Copy)]
-pub enum Read {
-    Is(Cell),
-    Bad,
-}
-
-// What the field that starts at a place holds, and where it ends.
-#[derive(Clone, Copy)]
-pub enum Taken {
-    Is(Cell, usize),
-    Bad,
-}
-
-// How many fields a line has, all of their kinds.
-#[derive(Clone, Copy)]
-pub enum Got {
-    Count(usize),
-    Bad,
-}
-
 // What is wrong with a line, or with a file: answers 3 to 6.
 #[derive(Clone, Copy)]
 pub enum Fault {
@@ -166,14 +143,8 @@ pub enum Fault {
     Levels,
 }
 
-// What a line's value is: a fault, or its form's number and how many fields it has.
-#[derive(Clone, Copy)]
-pub enum Line {
-    Fault(Fault),
-    Row(u8, usize),
-}
-
 // The form of a `type` line by its word.
+#[tactic(auto, unfolding(crate::specs::Form::forms, crate::specs::Words::index_numbered, crate::specs::Words::numbered, lex::specs::Text::pack_from, lex::specs::Text::letter))]
 fn type_form(w: u64) -> usize
     ensures { result ≡ index_numbered key_type w forms·T }
 {
@@ -187,6 +158,7 @@ fn type_form(w: u64) -> usize
 }
 
 // The form of a `node` line by its word.
+#[tactic(auto, unfolding(crate::specs::Form::forms, crate::specs::Words::index_numbered, crate::specs::Words::numbered, lex::specs::Text::pack_from, lex::specs::Text::letter))]
 fn node_form(w: u64) -> usize
     ensures { result ≡ index_numbered key_node w forms·T }
 {
@@ -218,6 +190,7 @@ fn node_form(w: u64) -> usize
 }
 
 // The number of the form of a key and a word, MOST_FORMS where there is none.
+#[tactic(auto, unfolding(crate::specs::Form::forms, crate::specs::Words::index_numbered, crate::specs::Words::numbered))]
 fn form_index(k: u8, w: u64) -> usize
     ensures { result ≡ index_numbered k w forms·T }
 {
@@ -233,6 +206,7 @@ fn form_index(k: u8, w: u64) -> usize
 }
 
 // The key that a word is.
+#[tactic(auto, unfolding(crate::specs::Words::key_numbered, lex::specs::Text::pack_from, lex::specs::Text::letter))]
 pub fn key_of(w: u64) -> u8
     ensures { result ≡ key_numbered w }
 {
@@ -254,51 +228,40 @@ pub struct Key {
     pub end: usize,
 }
 
-// The key of a line: `node`, which most lines have, by the first five bytes, and any other by its word.
+// The key of a line, by the word before its equals sign.
 pub fn read_key(l: &[u8]) -> Key
     ensures within { result.end ≤ length l.now }
     ensures end_value { (result.end ≡ before 61 l.now) × (result.number ≡ key_of (take result.end l.now)) }
 {
-    if 5 <= l.len() {
-        if l[0] == 110 {
-            if l[1] == 111 {
-                if l[2] == 100 {
-                    if l[3] == 101 {
-                        if l[4] == 61 {
-                            return Key {
-                                number: KEY_NODE,
-                                end: 4,
-                            };
-                        }
-                    }
-                }
-            }
-        }
+    // Nearly all lines are nodes: their key is told by five bytes, without a walk over the word, for speed.
+    if let [b'n', b'o', b'd', b'e', b'=', ..] = l {
+        return Key {
+            number: KEY_NODE,
+            end: 4,
+        };
     }
-    let e = lex::field_end(l, 0, 61);
+    let word = lex::word_to(l, b'=');
     Key {
-        number: key_of(lex::pack(&l[0..e])),
-        end: e,
+        number: key_of(word.number),
+        end: word.end,
     }
 }
 
 // The kind of the field i of a form.
+#[tactic(auto, unfolding(crate::specs::Form::kind_at))]
 pub fn kind_at(f: Form, i: usize) -> u8
     ensures { result ≡ kind_at f i }
 {
-    if i == 0 {
-        return f.0;
+    match i {
+        0 => f.0,
+        1 => f.1,
+        2 => f.2,
+        _ => f.3,
     }
-    if i == 1 {
-        return f.1;
-    }
-    if i == 2 {
-        return f.2;
-    }
-    f.3
 }
 
 // The form of a number; of a number that is no form's, one with no fields.
+#[tactic(auto, unfolding(crate::specs::Form::form_at, crate::specs::Form::forms))]
 pub fn form_at(i: usize) -> Form
     ensures { result ≡ form_at i }
 {
@@ -338,13 +301,14 @@ pub fn form_at(i: usize) -> Form
 }
 
 // The letter that a field is, 0 where it is no single letter.
+#[tactic(auto, unfolding(crate::specs::Form::letter_of))]
 fn letter_of(s: &[u8]) -> u8
     ensures { result ≡ letter_of s.now }
 {
-    if s.len() == 1 {
-        return s[0];
+    match s {
+        [x] => *x,
+        _ => 0,
     }
-    0
 }
 
 // A cell without a name.
@@ -353,168 +317,150 @@ fn nameless(tag: u16, value: u16) -> Cell
 {
     Cell {
         name: 0,
-        tag: tag,
-        value: value,
+        tag,
+        value,
     }
 }
 
-fn valued(b: u16, s: &[u8]) -> Read
+// A number, with the tag b.
+fn valued(b: u16, s: &[u8]) -> Option<Cell>
     ensures { result ≡ Rattle.forms.specs.Form.valued b (number_of s.now) }
 {
-    match lex::number(s) {
-        Num::Is(n) => Read::Is(nameless(b, n)),
-        Num::Bad => Read::Bad,
+    let n = lex::number(s)?;
+    Some(nameless(b, n))
+}
+
+// `-` or a number.
+#[tactic(auto, unfolding(crate::specs::Form::optional_of))]
+fn optional(s: &[u8]) -> Option<Cell>
+    ensures { result ≡ optional_of (letter_of s.now) s.now }
+{
+    if letter_of(s) == b'-' {
+        Some(nameless(0, 0))
+    } else {
+        valued(1, s)
     }
 }
 
-fn optional(x: u8, s: &[u8]) -> Read
-    ensures { result ≡ optional_of x s.now }
+// The operator of `bin`.
+#[tactic(auto, unfolding(crate::specs::Form::binary_of))]
+fn binary(s: &[u8]) -> Option<Cell>
+    ensures { result ≡ binary_of (letter_of s.now) }
 {
-    if x == 45 {
-        return Read::Is(nameless(0, 0));
-    }
-    valued(1, s)
-}
-
-fn binary(x: u8) -> Read
-    ensures { result ≡ binary_of x }
-{
-    match x {
-        98 => Read::Is(nameless(1, 0)),
-        99 => Read::Is(nameless(1, 1)),
-        97 => Read::Is(nameless(1, 2)),
-        _ => Read::Bad,
+    match letter_of(s) {
+        b'b' => Some(nameless(1, 0)),
+        b'c' => Some(nameless(1, 1)),
+        b'a' => Some(nameless(1, 2)),
+        _ => None,
     }
 }
 
-fn unary(x: u8) -> Read
-    ensures { result ≡ unary_of x }
+// The operator of `un`.
+#[tactic(auto, unfolding(crate::specs::Form::unary_of))]
+fn unary(s: &[u8]) -> Option<Cell>
+    ensures { result ≡ unary_of (letter_of s.now) }
 {
-    match x {
-        100 => Read::Is(nameless(1, 0)),
-        114 => Read::Is(nameless(1, 1)),
-        110 => Read::Is(nameless(1, 2)),
-        116 => Read::Is(nameless(1, 3)),
-        _ => Read::Bad,
+    match letter_of(s) {
+        b'd' => Some(nameless(1, 0)),
+        b'r' => Some(nameless(1, 1)),
+        b'n' => Some(nameless(1, 2)),
+        b't' => Some(nameless(1, 3)),
+        _ => None,
     }
 }
 
 // The tag of a first letter: l f c i e o from 1, 0 of any other.
+#[tactic(auto, unfolding(crate::specs::Form::tag_of))]
 fn tag_of(x: u8) -> u16
     ensures { result ≡ tag_of x }
 {
     match x {
-        108 => 1,
-        102 => 2,
-        99 => 3,
-        105 => 4,
-        101 => 5,
-        111 => 6,
+        b'l' => 1,
+        b'f' => 2,
+        b'c' => 3,
+        b'i' => 4,
+        b'e' => 5,
+        b'o' => 6,
         _ => 0,
     }
 }
 
-fn tagged(b: u16, s: &[u8]) -> Read
+// RES, by the tag b of its first letter: a number behind it, or nothing.
+#[tactic(auto, using(crate::proofs::Laws::tag_number), unfolding(crate::specs::Form::tagged_of))]
+fn tagged(b: u16, s: &[u8]) -> Option<Cell>
     requires { 0 < length s.now }
     ensures { result ≡ tagged_of b s.now }
 {
-    if b == 0 {
-        return Read::Bad;
+    match b {
+        0 => None,
+        1..=4 => valued(b, &s[1..]),
+        _ if s.len() == 1 => Some(nameless(b, 0)),
+        _ => None,
     }
-    if b <= 4 {
-        return valued(b, &s[1..]);
-    }
-    if s.len() == 1 {
-        return Read::Is(nameless(b, 0));
-    }
-    Read::Bad
 }
 
-fn resolution(s: &[u8]) -> Read
+// RES.
+fn resolution(s: &[u8]) -> Option<Cell>
     ensures { result ≡ resolution_of s.now }
 {
-    if s.len() == 0 {
-        return Read::Bad;
+    if s.is_empty() {
+        None
+    } else {
+        tagged(tag_of(s[0]), s)
     }
-    tagged(tag_of(s[0]), s)
+}
+
+// What stands behind a name: RES where p, else a number.
+fn behind(p: bool, s: &[u8]) -> Option<Cell>
+    ensures { result ≡ behind_of p s.now }
+{
+    if p { resolution(s) } else { valued(1, s) }
 }
 
 // NAME:RES where p, else NAME:NUMBER.
-fn pair(p: bool, s: &[u8]) -> Read
+fn pair(p: bool, s: &[u8]) -> Option<Cell>
     ensures { result ≡ pair_of p s.now }
 {
-    let e = lex::field_end(s, 0, 58);
-    if s.len() <= e {
-        return Read::Bad;
+    let e = lex::field_end(s, 0, b':');
+    if e >= s.len() {
+        return None;
     }
-    match lex::number(&s[0..e]) {
-        Num::Is(a) => renamed(a, behind(p, &s[e + 1..])),
-        Num::Bad => Read::Bad,
-    }
+    let name = lex::number(&s[..e])?;
+    let cell = behind(p, &s[e + 1..])?;
+    Some(Cell { name, ..cell })
 }
 
-fn behind(p: bool, s: &[u8]) -> Read
-    ensures { result ≡ behind_of p s.now }
-{
-    if p {
-        return resolution(s);
-    }
-    valued(1, s)
-}
-
-fn renamed(a: u16, r: Read) -> Read
-    ensures { result ≡ named (num.Is a) r }
-{
-    match r {
-        Read::Is(c) => Read::Is(Cell {
-            name: a,
-            tag: c.tag,
-            value: c.value,
-        }),
-        Read::Bad => Read::Bad,
-    }
-}
-
-fn read_class(c: u8, s: &[u8]) -> Read
-    ensures { result ≡ read_as c s.now }
-{
-    match c {
-        1 => valued(1, s),
-        2 => optional(letter_of(s), s),
-        3 => pair(false, s),
-        4 => binary(letter_of(s)),
-        5 => unary(letter_of(s)),
-        6 => resolution(s),
-        7 => pair(true, s),
-        _ => Read::Bad,
-    }
-}
-
-// What a field of a kind holds.
-fn read_as(k: u8, s: &[u8]) -> Read
+// What a field of a kind holds; None where it is not of its kind.
+#[tactic(auto, unfolding(crate::specs::Form::read_as))]
+fn read_as(k: u8, s: &[u8]) -> Option<Cell>
     ensures { result ≡ read_of k s.now }
 {
-    read_class(k / 16, s)
+    match k / 16 {
+        1 => valued(1, s),
+        2 => optional(s),
+        3 => pair(false, s),
+        4 => binary(s),
+        5 => unary(s),
+        6 => resolution(s),
+        7 => pair(true, s),
+        _ => None,
+    }
 }
 
-// The field of the kind k that starts at p: one pass over it where it is a number, or else its end first.
-fn field(k: u8, v: &[u8], p: usize) -> Taken
+// The field of the kind k that starts at p, with the place of its end: one pass over it where it is a number, or else its end first.
+fn field(k: u8, v: &[u8], p: usize) -> Option<(Cell, usize)>
     requires { p ≤ length v.now }
     ensures within { (p ≤ end_in p result) × (end_in p result ≤ length v.now) }
     ensures value { result ≡ field_at k v.now p }
 {
-    if 16 <= k {
-        if k < 48 {
-            if let Field::Number(n, e) = lex::scan(v, p) {
-                return Taken::Is(nameless(1, n), e);
-            }
+    if 16 <= k && k < 48 {
+        if let Some((n, e)) = lex::scan(v, p) {
+            return Some((nameless(1, n), e));
         }
     }
-    let e = lex::field_end(v, p, 44);
-    match read_as(k, &v[p..e]) {
-        Read::Is(c) => Taken::Is(c, e),
-        Read::Bad => Taken::Bad,
-    }
+    let e = lex::field_end(v, p, b',');
+    let cell = read_as(k, &v[p..e])?;
+    Some((cell, e))
 }
 
 // A cell at its place of the table of fields, where it is in it.
@@ -529,8 +475,9 @@ fn put_cell(t: &mut [u16], j: usize, c: Cell)
     }
 }
 
-// Reads the fields from start on as those of the form f, up to the first that is not of its kind, and stores their cells from at on.
-fn fields(v: &[u8], start: usize, f: Form, t: &mut [u16], at: usize) -> Got
+// Reads the fields from start on as those of the form f, and stores their cells from at on: their number, or None at the first that is
+// not of its kind.
+fn fields(v: &[u8], start: usize, f: Form, t: &mut [u16], at: usize) -> Option<usize>
     requires { (length v.now ≤ 65536) × (start ≤ length v.now + 1) × (at ≤ 65536) }
     ensures within { count_in result ≤ length v.now + 1 }
     ensures t_after { outcome result t.new ≡ fill 0 t.old at (cells_from f 0 (fields_from start v.now)) }
@@ -538,65 +485,61 @@ fn fields(v: &[u8], start: usize, f: Form, t: &mut [u16], at: usize) -> Got
     let mut p = start;
     let mut i = 0;
     while p <= v.len() {
-        let k = kind_at(f, i);
-        let Taken::Is(c, e) = field(k, v, p) else {
-            return Got::Bad;
-        };
-        put_cell(t, at + i, c);
+        let (cell, e) = field(kind_at(f, i), v, p)?;
+        put_cell(t, at + i, cell);
         i += 1;
         p = e + 1;
     }
-    Got::Count(i)
+    Some(i)
 }
 
-fn count_of(i: u8, f: Form, n: usize) -> Line
+// A line of the form f with n fields: the form's number and n, or the fault that n is.
+#[tactic(auto, unfolding(crate::specs::Form::count_of))]
+fn count_of(i: u8, f: Form, n: usize) -> Result<(u8, usize), Fault>
     ensures { result ≡ count_of i f n }
 {
     if n < f.4 {
-        return Line::Fault(Fault::Form);
+        Err(Fault::Form)
+    } else if n > f.5 {
+        Err(Fault::Limit)
+    } else {
+        Ok((i, n))
     }
-    if f.5 < n {
-        return Line::Fault(Fault::Limit);
-    }
-    Line::Row(i, n)
 }
 
+// Where the fields of a value of n bytes begin: behind the word, which ends at e, or of a key with no words at the start, where there
+// is any byte.
+#[tactic(auto, unfolding(crate::specs::Form::start_of))]
 fn start_of(k: u8, n: usize, e: usize) -> usize
     requires e_le_n { e ≤ n }
     requires n_bound { n ≤ 65536 }
     ensures value { result ≡ start_of k n e }
     ensures upper_bound { result ≤ n + 1 }
 {
-    if k == KEY_TYPE {
-        return e + 1;
+    match k {
+        KEY_TYPE | KEY_NODE => e + 1,
+        _ if n == 0 => 1,
+        _ => 0,
     }
-    if k == KEY_NODE {
-        return e + 1;
-    }
-    if n == 0 {
-        return 1;
-    }
-    0
 }
 
-// Reads a line's value, of the key k, and stores its cells from at on, as far as they were read; a value longer than any file is over a
-// limit.
-pub fn read_line(k: u8, v: &[u8], t: &mut [u16], at: u16) -> Line
+// Reads a line's value, of the key k, and stores its cells from at on, as far as they were read: the number of the form and of its
+// fields. A value longer than any file is over a limit.
+pub fn read_line(k: u8, v: &[u8], t: &mut [u16], at: u16) -> Result<(u8, usize), Fault>
     ensures within { width_of result ≤ length v.now + 1 }
     ensures t_after { shown result t.new ≡ lay (line_of k v.now) t.old at }
 {
-    if MOST_VALUE < v.len() {
-        return Line::Fault(Fault::Limit);
+    if v.len() > MOST_VALUE {
+        return Err(Fault::Limit);
     }
-    let w = lex::word_to(v, 44);
-    let e = w.end;
-    let i = form_index(k, w.number);
-    if MOST_FORMS <= i {
-        return Line::Fault(Fault::Form);
+    let word = lex::word_to(v, b',');
+    let i = form_index(k, word.number);
+    if i >= MOST_FORMS {
+        return Err(Fault::Form);
     }
     let f = form_at(i);
-    match fields(v, start_of(k, v.len(), e), f, t, at as usize) {
-        Got::Count(n) => count_of(i as u8, f, n),
-        Got::Bad => Line::Fault(Fault::Form),
+    match fields(v, start_of(k, v.len(), word.end), f, t, at as usize) {
+        Some(n) => count_of(i as u8, f, n),
+        None => Err(Fault::Form),
     }
 }

@@ -1,23 +1,19 @@
 -- What a number, a field and a word of a line are, over the bytes of the line's value.
 -- Assumes nothing.
-use Rattle.std.specs.Prelude.{ℕ, zero, suc, ◌+◌, ◌*◌, ◌-◌, List, [], ◌∷◌, Bool, true, false, cond, leb, ltb, eqb, length, get_or, take, drop}
+use Rattle.std.specs.Prelude.{ℕ, zero, suc, ◌+◌, ◌*◌, ◌-◌, List, [], ◌∷◌, Bool, true, false, cond, leb, ltb, eqb, length, get_or, take, drop, None, Option, Some}
 use Prim.Native.String.{String, len, char_at}
 use Prim.Native.Char.{code}
-use Rattle.lex.specs.declared.Num.{Num}
-use Rattle.lex.specs.declared.Num.TheVariants.{Is, Bad}
-use Rattle.lex.specs.declared.Field.{Field}
-use Rattle.lex.specs.declared.Field.TheVariants.{Number, Other}
 
 -- the number of the digits xs behind digits of the value a; a number is at most 65,535
-unfoldable pub digits_from : ℕ → List ℕ → Num
-digits_from a [] = cond (leb a 65535) (Is a) Bad
-digits_from a (x ∷ xs) = cond (leb 48 x) (cond (leb x 57) (digits_from (a * 10 + (x - 48)) xs) Bad) Bad
+unfoldable pub digits_from : ℕ → List ℕ → Option ℕ
+digits_from a [] = cond (leb a 65535) (Some a) None
+digits_from a (x ∷ xs) = cond (leb 48 x) (cond (leb x 57) (digits_from (a * 10 + (x - 48)) xs) None) None
 
 -- a number has at least one digit and no leading zero: behind a first 0 nothing stands
-unfoldable pub number_of : List ℕ → Num
-number_of [] = Bad
+unfoldable pub number_of : List ℕ → Option ℕ
+number_of [] = None
 number_of (x ∷ []) = digits_from 0 (x ∷ [])
-number_of (x ∷ y ∷ ys) = cond (eqb x 48) Bad (digits_from 0 (x ∷ y ∷ ys))
+number_of (x ∷ y ∷ ys) = cond (eqb x 48) None (digits_from 0 (x ∷ y ∷ ys))
 
 -- the byte x before the first of some parts
 abbrev pub onto : ℕ → List (List ℕ) → List (List ℕ)
@@ -43,13 +39,13 @@ before c [] = 0
 before c (x ∷ xs) = cond (eqb x c) 0 (suc (before c xs))
 
 -- a field read as a number, with the place e of its end
-abbrev pub numbered : Num → ℕ → Field
-numbered (Is n) e = Number n e
-numbered Bad e = Other
+abbrev pub numbered : Option ℕ → ℕ → Option (ℕ × ℕ)
+numbered (Some n) e = Some (n, e)
+numbered None e = None
 
--- what one pass over the field from the place p on finds: a number that does not begin with 0, and the place of its end; anything else is Other
-unfoldable pub scan_of : List ℕ → ℕ → Field
-scan_of s p = cond (eqb (get_or s p 0) 48) Other (numbered (number_of (take (before 44 (drop p s)) (drop p s))) (p + before 44 (drop p s)))
+-- what one pass over the field from the place p on finds: a number that does not begin with 0, and the place of its end; anything else is None
+unfoldable pub scan_of : List ℕ → ℕ → Option (ℕ × ℕ)
+scan_of s p = cond (eqb (get_or s p 0) 48) None (numbered (number_of (take (before 44 (drop p s)) (drop p s))) (p + before 44 (drop p s)))
 
 -- n letters of a text from the place i on, as bytes
 abbrev pub letters_from : ℕ → ℕ → String → List ℕ

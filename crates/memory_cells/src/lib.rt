@@ -13,16 +13,14 @@ pub const ROWS_AT: usize = 5120;
 pub fn read(m: &[u16], i: usize) -> u16
     ensures { result ≡ cell m.now i }
 {
-    if i < m.len() { m[i] } else { 0 }
+    table_cells::read(m, i)
 }
 
 // A store: past the end it changes nothing.
 pub fn write(m: &mut [u16], i: usize, v: u16)
     ensures { m.new ≡ set m.old i v }
 {
-    if i < m.len() {
-        m[i] = v;
-    }
+    table_cells::write(m, i, v);
 }
 
 // ── type rows ──

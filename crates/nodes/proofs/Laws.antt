@@ -1,6 +1,8 @@
 -- What each return of a reading function shows, and each turn of its loop, over plain variables.
+use Rattle.std.specs.Prelude.{None, Option, Some}
 use mathlib.Core.Path.{◌≡◌, refl, sym, ◌∙◌}
 use mathlib.Core.List.{List, [], ◌∷◌}
+use mathlib.Core.Logic.{◌⊎◌, inl, inr}
 use mathlib.Core.Bool.{Bool, true, false}
 use Prim.Native.Nat.{ℕ, suc, zero, ◌+◌, ◌-◌, ◌<◌, ◌≤◌}
 use native.Mathlib.Omega.{arith}
@@ -13,20 +15,15 @@ use Rattle.theory.specs.Rules.{Shape, row}
 use Rattle.type_table.specs.Memory.{cell, inputs_at, head_at, number_at, first_at, count_at, inputs_from, rows_of}
 use Rattle.type_table.specs.declared.DefId.{DefId}
 use Rattle.refs.specs.Refs.{types_at, nodes_at, insts_at, binds_at, form_in, first_in, count_in, name_in, tag_in, value_in}
-use Rattle.nodes.specs.declared.MaybeType.{MaybeType}
-use Rattle.nodes.specs.declared.MaybeType.TheVariants as type
-use Rattle.nodes.specs.declared.MaybeDef.{MaybeDef}
-use Rattle.nodes.specs.declared.MaybeDef.TheVariants as def
 use Rattle.nodes.specs.declared.Items.{Items}
 use Rattle.nodes.specs.declared.Field.{Field}
 use Rattle.nodes.specs.declared.Node.{Node}
 use Rattle.nodes.specs.declared.Node.TheVariants as form
 use Rattle.nodes.specs.declared.TypeRow.{TypeRow}
-use Rattle.nodes.specs.declared.NamedItem.{NamedItem}
-use Rattle.nodes.specs.declared.NamedItem.TheVariants as item·N
 use Rattle.nodes.specs.Nodes.{field_in, behind, numbers_from, node_of, node_at, type_row_of, type_row_at, shape_inputs, def_inputs, item, items_of, nth, named_from, as_type, as_def, field_type, as_arr, of_functions, binds_for, named, method_in, method_from, failed_from}
 use Rattle.nodes.specs.Numbers.{length_items}
 use Rattle.nodes.specs.Shapes.{row_inputs, row_element, row_is_fun, row_fun, row_lam, row_arr}
+use Rattle.type_table.specs.declared.TypeId.{TypeId}
 
 -- where one more is to come, that one comes first
 one_more_lem : (k i : ℕ) → i < k → k - i ≡ suc (k - (i + 1))
@@ -40,80 +37,39 @@ none_left k i h = omega arith
 next_place : (j i : ℕ) → j + (i + 1) ≡ suc (j + i)
 next_place j i = omega arith
 
--- ── nodes ──
-
--- a form of no other node is `str`
-pub decode_other : (h : ℕ) (a b c : Field) (first count : ℕ) → (((((((((((((((((((((Unit {0} × (h ≡ 7 → ⊥)) × (h ≡ 8 → ⊥)) × (h ≡ 9 → ⊥)) × (h ≡ 11 → ⊥)) × (h ≡ 12 → ⊥)) × (h ≡ 13 → ⊥)) × (h ≡ 14 → ⊥)) × (h ≡ 15 → ⊥)) × (h ≡ 16 → ⊥)) × (h ≡ 17 → ⊥)) × (h ≡ 18 → ⊥)) × (h ≡ 19 → ⊥)) × (h ≡ 20 → ⊥)) × (h ≡ 21 → ⊥)) × (h ≡ 22 → ⊥)) × (h ≡ 23 → ⊥)) × (h ≡ 24 → ⊥)) × (h ≡ 25 → ⊥)) × (h ≡ 26 → ⊥)) × (h ≡ 27 → ⊥)) × (h ≡ 28 → ⊥)) → form.Str ≡ node_of h a b c first count
-unfolding node_of
-decode_other h a b c first count e =
-    simp (
-      ne_eqb h 7 e.0.0.0.0.0.0.0.0.0.0.0.0.0.0.0.0.0.0.0.0.1,
-      ne_eqb h 8 e.0.0.0.0.0.0.0.0.0.0.0.0.0.0.0.0.0.0.0.1,
-      ne_eqb h 9 e.0.0.0.0.0.0.0.0.0.0.0.0.0.0.0.0.0.0.1,
-      ne_eqb h 11 e.0.0.0.0.0.0.0.0.0.0.0.0.0.0.0.0.0.1,
-      ne_eqb h 12 e.0.0.0.0.0.0.0.0.0.0.0.0.0.0.0.0.1,
-      ne_eqb h 13 e.0.0.0.0.0.0.0.0.0.0.0.0.0.0.0.1,
-      ne_eqb h 14 e.0.0.0.0.0.0.0.0.0.0.0.0.0.0.1,
-      ne_eqb h 15 e.0.0.0.0.0.0.0.0.0.0.0.0.0.1,
-      ne_eqb h 16 e.0.0.0.0.0.0.0.0.0.0.0.0.1,
-      ne_eqb h 17 e.0.0.0.0.0.0.0.0.0.0.0.1,
-      ne_eqb h 18 e.0.0.0.0.0.0.0.0.0.0.1,
-      ne_eqb h 19 e.0.0.0.0.0.0.0.0.0.1,
-      ne_eqb h 20 e.0.0.0.0.0.0.0.0.1,
-      ne_eqb h 21 e.0.0.0.0.0.0.0.1,
-      ne_eqb h 22 e.0.0.0.0.0.0.1,
-      ne_eqb h 23 e.0.0.0.0.0.1,
-      ne_eqb h 24 e.0.0.0.0.1,
-      ne_eqb h 25 e.0.0.0.1,
-      ne_eqb h 26 e.0.0.1,
-      ne_eqb h 27 e.0.1,
-      ne_eqb h 28 e.1,
-    )
-
--- a node is what its form and its first three fields say
-pub node_is : (rows cells : List ℕ) (n h f k : ℕ) (r : Node) → h ≡ form_in rows (nodes_at + n) → f ≡ first_in rows (nodes_at + n) → k ≡ count_in rows (nodes_at + n)
-    → r ≡ node_of h (field_in cells f) (field_in cells (f + 1)) (field_in cells (f + 2)) f k → r ≡ node_at rows cells n
-unfolding node_at
-node_is rows cells n h f k r hq fq kq e = rw (hq, kq, fq) at e
-
--- a type line is what its form and its first two numbers say
-pub type_row_is : (rows cells : List ℕ) (i h f k a b : ℕ) (r : TypeRow) → h ≡ form_in rows (types_at + i) → f ≡ first_in rows (types_at + i) → k ≡ count_in rows (types_at + i) → a ≡ value_in cells f → b ≡ value_in cells (f + 1) → r ≡ type_row_of h a b f k → r ≡ type_row_at rows cells i
-unfolding type_row_at
-type_row_is rows cells i h f k a b r hq fq kq aq bq e = rw (aq, bq, hq, kq, fq, zero-add i) at e
-
 -- ── signatures ──
 
 -- L j k are the numbers g j, g (j + 1) and on, k of them
 module _ (L : ℕ → ℕ → List ℕ) (g : ℕ → ℕ) (none : (j : ℕ) → L j 0 ≡ []) (more : (j k : ℕ) → L j (suc k) ≡ g j ∷ L (suc j) k) where
   -- the number i of those from j on is g (j + i)
-  nth_there : (j k i : ℕ) → i < k → type.Of (record { 0 = g (j + i) }) ≡ nth (L j k) i
+  nth_there : (j k i : ℕ) → i < k → Some (record { 0 = g (j + i) }) ≡ nth (L j k) i
   nth_there j zero i h = absurd (omega arith)
   nth_there j (suc k) zero h = let e : j + 0 ≡ j = omega arith in rw (more j k, e)
   nth_there j (suc k) (suc i) h = let e : j + suc i ≡ suc j + i = omega arith in rw (more j k, e) (nth_there (suc j) k i (omega arith))
 
   -- behind the last number there is none
-  nth_behind : (j k i : ℕ) → k ≤ i → type.Absent ≡ nth (L j k) i
+  nth_behind : (j k i : ℕ) → k ≤ i → None ≡ nth (L j k) i
   nth_behind j zero i h = rw (none j)
   nth_behind j (suc k) zero h = absurd (omega arith)
   nth_behind j (suc k) (suc i) h = rw (more j k) (nth_behind (suc j) k i (omega arith))
 
 -- the number i of those from j on stands at j + i
-nth_numbers : (cells : List ℕ) (j k i : ℕ) → i < k → type.Of (record { 0 = value_in cells (j + i) }) ≡ nth (numbers_from cells j k) i
+nth_numbers : (cells : List ℕ) (j k i : ℕ) → i < k → Some (record { 0 = value_in cells (j + i) }) ≡ nth (numbers_from cells j k) i
 unfolding numbers_from
 nth_numbers cells = nth_there (numbers_from cells) (value_in cells) (λ j. refl) (λ j k. refl)
 
 -- behind the last number there is none
-no_number : (cells : List ℕ) (j k i : ℕ) → k ≤ i → type.Absent ≡ nth (numbers_from cells j k) i
+no_number : (cells : List ℕ) (j k i : ℕ) → k ≤ i → None ≡ nth (numbers_from cells j k) i
 unfolding numbers_from
 no_number cells = nth_behind (numbers_from cells) (value_in cells) (λ j. refl) (λ j k. refl)
 
 -- the input i of those from f on stands at f + i
-pub nth_inputs : (m : List ℕ) (f k i : ℕ) → i < k → type.Of (record { 0 = cell m (inputs_at + (f + i)) }) ≡ nth (inputs_from m f k) i
+pub nth_inputs : (m : List ℕ) (f k i : ℕ) → i < k → Some (record { 0 = cell m (inputs_at + (f + i)) }) ≡ nth (inputs_from m f k) i
 unfolding inputs_from
 nth_inputs m = nth_there (inputs_from m) (λ f. cell m (inputs_at + f)) (λ f. refl) (λ f k. refl)
 
 -- behind the last input there is none
-pub no_input : (m : List ℕ) (f k i : ℕ) → k ≤ i → type.Absent ≡ nth (inputs_from m f k) i
+pub no_input : (m : List ℕ) (f k i : ℕ) → k ≤ i → None ≡ nth (inputs_from m f k) i
 unfolding inputs_from
 no_input m = nth_behind (inputs_from m) (λ f. cell m (inputs_at + f)) (λ f. refl) (λ f k. refl)
 
@@ -124,22 +80,19 @@ module _ (rows cells : List ℕ) (d : ℕ) (t : Items) (tq : t ≡ def_inputs ro
   length_def = rw tq (sym (length_items cells (def_inputs rows d)))
 
   -- the input i is the item i
-  pub def_input_in : (i v : ℕ) → i < t.count → v ≡ item cells t i → type.Of (record { 0 = v }) ≡ nth (items_of cells (def_inputs rows d)) i
+  pub def_input_in : (i v : ℕ) → i < t.count → v ≡ item cells t i → Some (record { 0 = v }) ≡ nth (items_of cells (def_inputs rows d)) i
   unfolding item
-  def_input_in i v h vq = let e : type.Of (record { 0 = v }) ≡ nth (items_of cells t) i = rw vq (nth_numbers cells (t.first + t.from) t.count i h) in rw tq at e
+  def_input_in i v h vq = let e : Some (record { 0 = v }) ≡ nth (items_of cells t) i = rw vq (nth_numbers cells (t.first + t.from) t.count i h) in rw tq at e
 
   -- behind the last item there is no input
-  pub def_input_out : (i : ℕ) → t.count ≤ i → type.Absent ≡ nth (items_of cells (def_inputs rows d)) i
-  def_input_out i h = let e : type.Absent ≡ nth (items_of cells t) i = no_number cells (t.first + t.from) t.count i h in rw tq at e
+  pub def_input_out : (i : ℕ) → t.count ≤ i → None ≡ nth (items_of cells (def_inputs rows d)) i
+  def_input_out i h = let e : None ≡ nth (items_of cells t) i = no_number cells (t.first + t.from) t.count i h in rw tq at e
 
 module _ (m : List ℕ) (n x h : ℕ) (hq : h ≡ head_at m n x) where
-  -- a function type has the inputs of its places
-  pub inputs_fun : (f k : ℕ) → h ≡ 6 → f ≡ first_at m n x → k ≡ count_at m n x → inputs_from m f k ≡ shape_inputs (row (rows_of m n) x)
-  inputs_fun f k e fq kq = rw (row_fun m n x (sym hq ∙ e), fq, kq)
-
-  -- and so has a lambda
-  pub inputs_lambda : (f k : ℕ) → h ≡ 13 → f ≡ first_at m n x → k ≡ count_at m n x → inputs_from m f k ≡ shape_inputs (row (rows_of m n) x)
-  inputs_lambda f k e fq kq = rw (row_lam m n x (sym hq ∙ e), fq, kq)
+  -- function types and lambdas have the inputs of their places
+  pub inputs_made : (f k : ℕ) → (h ≡ 6) ⊎ (h ≡ 13) → f ≡ first_at m n x → k ≡ count_at m n x → inputs_from m f k ≡ shape_inputs (row (rows_of m n) x)
+  inputs_made f k (inl e) fq kq = rw (row_fun m n x (sym hq ∙ e), fq, kq)
+  inputs_made f k (inr e) fq kq = rw (row_lam m n x (sym hq ∙ e), fq, kq)
 
   -- another type has none
   pub inputs_none : (h ≡ 6 → ⊥) → (h ≡ 13 → ⊥) → inputs_from m 0 0 ≡ shape_inputs (row (rows_of m n) x)
@@ -149,15 +102,15 @@ module _ (m : List ℕ) (n x h : ℕ) (hq : h ≡ head_at m n x) where
 -- ── fields and methods ──
 
 -- what is asked (w) comes down to the fields from i on
-module _ (w : NamedItem) (cells : List ℕ) (j k i name : ℕ) (inv : w ≡ named_from cells (j + i) (k - i) name) where
+module _ (w : Option ℕ) (cells : List ℕ) (j k i name : ℕ) (inv : w ≡ named_from cells (j + i) (k - i) name) where
   -- none has the name
-  pub named_none : k ≤ i → item·N.Absent ≡ w
+  pub named_none : k ≤ i → None ≡ w
   unfolding named_from
   named_none h = sym (inv ∙ rw (none_left k i h))
 
   module _ (h : i < k) (x : ℕ) (xq : x ≡ name_in cells (j + i)) where
     -- the field i has it
-    pub named_here : (y : ℕ) → x ≡ name → y ≡ value_in cells (j + i) → item·N.Of y ≡ w
+    pub named_here : (y : ℕ) → x ≡ name → y ≡ value_in cells (j + i) → Some y ≡ w
     unfolding named_from
     named_here y e yq = sym (inv ∙ rw (one_more_lem k i h, ← xq, eq-eqb x name e, ← yq))
 
@@ -165,11 +118,6 @@ module _ (w : NamedItem) (cells : List ℕ) (j k i name : ℕ) (inv : w ≡ name
     pub named_more : (x ≡ name → ⊥) → w ≡ named_from cells (j + (i + 1)) (k - (i + 1)) name
     unfolding named_from
     named_more e = inv ∙ rw (one_more_lem k i h, ← xq, ne_eqb x name e, next_place j i)
-
--- the type of a field is the number of the first item of its name
-pub field_type_is : (rows cells : List ℕ) (k f n name : ℕ) (t : Items) (w : NamedItem) (r : MaybeType) → f ≡ first_in rows (insts_at + k) → n ≡ count_in rows (insts_at + k) → t ≡ behind f n 0 → w ≡ named cells t name → r ≡ as_type w → r ≡ field_type rows cells k name
-unfolding field_type
-field_type_is rows cells k f n name t w r fq nq tq wq e = rw (wq, tq, nq, fq) at e
 
 module _ (m : List ℕ) (n x h : ℕ) (hq : h ≡ head_at m n x) where
   -- an array is one of functions where its element has that head
@@ -195,32 +143,21 @@ pub binds_same : (ts : List Shape) (x y : ℕ) → x ≡ y → true ≡ binds_fo
 unfolding binds_for
 binds_same ts x y e = rw (eq-eqb x y e)
 
-module _ (ts : List Shape) (rows cells : List ℕ) (j f w x name : ℕ) (fq : f ≡ first_in rows (binds_at + j)) (wq : w ≡ value_in cells f) (b : Bool) (bq : b ≡ binds_for ts x w) where
-  -- a bind for the receiver has the methods that it names
-  pub method_named : (k : ℕ) (t : Items) (i : NamedItem) (r : MaybeDef) → k ≡ count_in rows (binds_at + j) → t ≡ behind f k 1 → b ≡ true → i ≡ named cells t name → r ≡ as_def i → r ≡ method_in ts rows cells j x name
-  unfolding method_in
-  method_named k t i r kq tq e iq rq = rw (← fq, ← wq, ← bq, e, ← kq) (rw (iq, tq) at rq)
-
-  -- another bind has none
-  pub method_no_bind : b ≡ false → def.Absent ≡ method_in ts rows cells j x name
-  unfolding method_in
-  method_no_bind e = rw (← fq, ← wq, ← bq, e)
-
 -- what is asked (w) comes down to the binds from j on
-module _ (w : MaybeDef) (ts : List Shape) (rows cells : List ℕ) (k j x name : ℕ) (inv : w ≡ method_from ts rows cells j (k - j) x name) where
+module _ (w : Option DefId) (ts : List Shape) (rows cells : List ℕ) (k j x name : ℕ) (inv : w ≡ method_from ts rows cells j (k - j) x name) where
   -- no bind has the method
-  pub method_none : k ≤ j → def.Absent ≡ w
+  pub method_none : k ≤ j → None ≡ w
   unfolding method_from
   method_none h = sym (inv ∙ rw (none_left k j h))
 
-  module _ (h : j < k) (r : MaybeDef) (rq : r ≡ method_in ts rows cells j x name) where
+  module _ (h : j < k) (r : Option DefId) (rq : r ≡ method_in ts rows cells j x name) where
     -- the bind j has it
-    pub method_here : (d : DefId) → r ≡ def.Of d → def.Of d ≡ w
+    pub method_here : (d : DefId) → r ≡ Some d → Some d ≡ w
     unfolding method_from
     method_here d e = sym (inv ∙ rw (one_more_lem k j h, ← rq, e))
 
     -- the bind j has not
-    pub method_more : r ≡ def.Absent → w ≡ method_from ts rows cells (j + 1) (k - (j + 1)) x name
+    pub method_more : r ≡ None → w ≡ method_from ts rows cells (j + 1) (k - (j + 1)) x name
     unfolding method_from
     method_more e = inv ∙ rw (one_more_lem k j h, ← rq, e, add-one j)
 

@@ -1,5 +1,5 @@
 -- The tables of a body as the typing rules read them. Definitions alone.
-use Rattle.std.specs.Prelude.{List, [], ◌∷◌, Bool, true, false, ◌&&◌, ◌||◌, ℕ, suc, zero, ◌+◌, ◌-◌, length, eqb, ltb, leb}
+use Rattle.std.specs.Prelude.{List, [], ◌∷◌, Bool, true, false, ◌&&◌, ◌||◌, ℕ, suc, zero, ◌+◌, ◌-◌, length, eqb, ltb, leb, None, Option as Option·R, Some}
 use Rattle.std.proofs.Math.Option.{Option, none, some}
 use Rattle.theory.specs.Rules.{Shape, base, var, arr, ref, fn, fun, lam, err, div, row}
 use Rattle.type_table.specs.declared.TypeId.{TypeId}
@@ -8,12 +8,6 @@ use Rattle.type_table.specs.declared.DefId.{DefId}
 use Rattle.type_table.specs.declared.InstId.{InstId}
 use Rattle.type_table.specs.Memory.{pick}
 use Rattle.refs.specs.Refs.{defs_at, insts_at, binds_at, nodes_at, fn_at, form_in, first_in, count_in, name_in, tag_in, value_in}
-use Rattle.nodes.specs.declared.MaybeType.{MaybeType}
-use Rattle.nodes.specs.declared.MaybeType.TheVariants as type
-use Rattle.nodes.specs.declared.MaybeNode.{MaybeNode}
-use Rattle.nodes.specs.declared.MaybeNode.TheVariants as node
-use Rattle.nodes.specs.declared.MaybeDef.{MaybeDef}
-use Rattle.nodes.specs.declared.MaybeDef.TheVariants as def
 use Rattle.nodes.specs.declared.Items.{Items}
 use Rattle.nodes.specs.declared.Res.{Res}
 use Rattle.nodes.specs.declared.Res.TheVariants as res
@@ -24,17 +18,11 @@ use Rattle.nodes.specs.declared.UnOp.TheVariants as un
 use Rattle.nodes.specs.declared.Field.{Field}
 use Rattle.nodes.specs.declared.Node.{Node}
 use Rattle.nodes.specs.declared.Node.TheVariants as form
-use Rattle.nodes.specs.declared.Local.{Local}
-use Rattle.nodes.specs.declared.Local.TheVariants as local
-use Rattle.nodes.specs.declared.Block.{Block}
-use Rattle.nodes.specs.declared.Block.TheVariants as block
 use Rattle.nodes.specs.declared.TypeRow.{TypeRow}
 use Rattle.nodes.specs.declared.TypeRow.TheVariants as row·T
 use Rattle.nodes.specs.declared.Function.{Function}
 use Rattle.nodes.specs.declared.Callee.{Callee}
 use Rattle.nodes.specs.declared.Callee.TheVariants as callee
-use Rattle.nodes.specs.declared.NamedItem.{NamedItem}
-use Rattle.nodes.specs.declared.NamedItem.TheVariants as item·N
 
 -- a body that was read: its two tables, and how many binds it has
 pub record Body : Type 0 where
@@ -57,12 +45,12 @@ abbrev pub behind : ℕ → ℕ → ℕ → Items
 behind first count k = record { first = first; from = k; count = count_behind count k }
 
 -- a type, or `-`
-unfoldable pub maybe_type : Field → MaybeType
-maybe_type f = pick (eqb f.tag 0) type.Absent (type.Of (record { 0 = f.value }))
+unfoldable pub maybe_type : Field → Option·R TypeId
+maybe_type f = pick (eqb f.tag 0) None (Some (record { 0 = f.value }))
 
 -- a node, or `-`
-unfoldable pub maybe_node : Field → MaybeNode
-maybe_node f = pick (eqb f.tag 0) node.Absent (node.Of (record { 0 = f.value }))
+unfoldable pub maybe_node : Field → Option·R NodeId
+maybe_node f = pick (eqb f.tag 0) None (Some (record { 0 = f.value }))
 
 -- OP of `bin`: b, c, a
 unfoldable pub bin_op : ℕ → BinOp
@@ -134,18 +122,18 @@ unfoldable pub field_of : List ℕ → List ℕ → ℕ → ℕ → Field
 field_of rows cells n k = field_in cells (first_in rows (nodes_at + n) + k)
 
 -- the declared type of the param n
-unfoldable pub declared_at : List ℕ → List ℕ → ℕ → MaybeType
-declared_at rows cells n = pick (eqb (form_in rows (nodes_at + n)) 26) (maybe_type (field_of rows cells n 0)) type.Absent
+unfoldable pub declared_at : List ℕ → List ℕ → ℕ → Option·R TypeId
+declared_at rows cells n = pick (eqb (form_in rows (nodes_at + n)) 26) (maybe_type (field_of rows cells n 0)) None
 
 -- the type and the init of the let n
-unfoldable pub let_at : List ℕ → List ℕ → ℕ → Local
-let_at rows cells n = pick (eqb (form_in rows (nodes_at + n)) 25) (local.Let (maybe_type (field_of rows cells n 0)) (maybe_node (field_of rows cells n 1))) local.Not
+unfoldable pub let_at : List ℕ → List ℕ → ℕ → Option·R (Option·R TypeId × Option·R NodeId)
+let_at rows cells n = pick (eqb (form_in rows (nodes_at + n)) 25) (Some ((maybe_type (field_of rows cells n 0)), (maybe_node (field_of rows cells n 1)))) None
 
 -- the tail and the statements of the block n
-unfoldable pub block_at : List ℕ → List ℕ → ℕ → Block
+unfoldable pub block_at : List ℕ → List ℕ → ℕ → Option·R (Option·R NodeId × Items)
 block_at rows cells n =
     let r = nodes_at + n in
-    pick (eqb (form_in rows r) 24) (block.Of (maybe_node (field_of rows cells n 0)) (behind (first_in rows r) (count_in rows r) 1)) block.Not
+    pick (eqb (form_in rows r) 24) (Some ((maybe_node (field_of rows cells n 0)), (behind (first_in rows r) (count_in rows r) 1))) None
 
 -- ── types and the function ──
 
@@ -197,34 +185,34 @@ inputs_of ts rows cells (callee.Def d) = items_of cells (def_inputs rows d.0)
 inputs_of ts rows cells (callee.Type x) = shape_inputs (row ts x.0)
 
 -- the number at a place of a list, if there is one
-abbrev pub nth : List ℕ → ℕ → MaybeType
-nth [] i = type.Absent
-nth (x ∷ xs) zero = type.Of (record { 0 = x })
+abbrev pub nth : List ℕ → ℕ → Option·R TypeId
+nth [] i = None
+nth (x ∷ xs) zero = Some (record { 0 = x })
 nth (x ∷ xs) (suc i) = nth xs i
 
 -- ── fields and methods ──
 
 -- the number of the first of k fields from j on that has a name
-unfoldable pub named_from : List ℕ → ℕ → ℕ → ℕ → NamedItem
-named_from cells j zero name = item·N.Absent
-named_from cells j (suc k) name = pick (eqb (name_in cells j) name) (item·N.Of (value_in cells j)) (named_from cells (suc j) k name)
+unfoldable pub named_from : List ℕ → ℕ → ℕ → ℕ → Option·R ℕ
+named_from cells j zero name = None
+named_from cells j (suc k) name = pick (eqb (name_in cells j) name) (Some (value_in cells j)) (named_from cells (suc j) k name)
 
 -- the number of the first item of a name
-abbrev pub named : List ℕ → Items → ℕ → NamedItem
+abbrev pub named : List ℕ → Items → ℕ → Option·R ℕ
 named cells t name = named_from cells (t.first + t.from) t.count name
 
 -- that number as a type
-abbrev pub as_type : NamedItem → MaybeType
-as_type (item·N.Of x) = type.Of (record { 0 = x })
-as_type item·N.Absent = type.Absent
+abbrev pub as_type : Option·R ℕ → Option·R TypeId
+as_type (Some x) = Some (record { 0 = x })
+as_type None = None
 
 -- that number as a definition
-abbrev pub as_def : NamedItem → MaybeDef
-as_def (item·N.Of d) = def.Of (record { 0 = d })
-as_def item·N.Absent = def.Absent
+abbrev pub as_def : Option·R ℕ → Option·R DefId
+as_def (Some d) = Some (record { 0 = d })
+as_def None = None
 
 -- the type of the first field of a name
-unfoldable pub field_type : List ℕ → List ℕ → ℕ → ℕ → MaybeType
+unfoldable pub field_type : List ℕ → List ℕ → ℕ → ℕ → Option·R TypeId
 field_type rows cells k name = as_type (named cells (behind (first_in rows (insts_at + k)) (count_in rows (insts_at + k)) 0) name)
 
 -- the element of an array
@@ -266,23 +254,23 @@ unfoldable pub binds_for : List Shape → ℕ → ℕ → Bool
 binds_for ts x w = eqb x w || (is_some (as_arr (row ts x)) && of_functions ts (as_arr (row ts w)))
 
 -- the method of a name in the bind j, if it is one for the receiver x
-unfoldable pub method_in : List Shape → List ℕ → List ℕ → ℕ → ℕ → ℕ → MaybeDef
+unfoldable pub method_in : List Shape → List ℕ → List ℕ → ℕ → ℕ → ℕ → Option·R DefId
 method_in ts rows cells j x name =
     let f = first_in rows (binds_at + j) in
-    pick (binds_for ts x (value_in cells f)) (as_def (named cells (behind f (count_in rows (binds_at + j)) 1) name)) def.Absent
+    pick (binds_for ts x (value_in cells f)) (as_def (named cells (behind f (count_in rows (binds_at + j)) 1) name)) None
 
 -- the first one, else the second
-abbrev pub or_else : MaybeDef → MaybeDef → MaybeDef
-or_else (def.Of d) r = def.Of d
-or_else def.Absent r = r
+abbrev pub or_else : Option·R DefId → Option·R DefId → Option·R DefId
+or_else (Some d) r = Some d
+or_else None r = r
 
 -- the first method of a name in k binds from j on, in file order
-unfoldable pub method_from : List Shape → List ℕ → List ℕ → ℕ → ℕ → ℕ → ℕ → MaybeDef
-method_from ts rows cells j zero x name = def.Absent
+unfoldable pub method_from : List Shape → List ℕ → List ℕ → ℕ → ℕ → ℕ → ℕ → Option·R DefId
+method_from ts rows cells j zero x name = None
 method_from ts rows cells j (suc k) x name = or_else (method_in ts rows cells j x name) (method_from ts rows cells (suc j) k x name)
 
 -- the method of a name for the receiver x (`binds_for_type`)
-abbrev pub method : List Shape → Body → ℕ → ℕ → MaybeDef
+abbrev pub method : List Shape → Body → ℕ → ℕ → Option·R DefId
 method ts b x name = method_from ts b.rows b.cells 0 b.binds x name
 
 -- ── segments ──

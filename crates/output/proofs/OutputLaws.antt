@@ -1,4 +1,5 @@
 -- What a byte, a digit and the end of a text do to an output. Assumes nothing.
+use Rattle.std.specs.Prelude.{None, Some}
 use native.Mathlib.Omega.{arith}
 use native.Mathlib.Numerals.{add-one, sub-one}
 use mathlib.Core.Path.{◌≡◌, refl, sym, ap, subst, ◌∙◌}
@@ -6,11 +7,10 @@ use mathlib.Core.Logic.{inl, inr}
 use mathlib.Core.List.{List, [], ◌∷◌, ◌++◌}
 use mathlib.Core.Bool.{Bool, true, false, cond}
 use Prim.Native.Nat.{ℕ, zero, suc, ◌+◌, ◌-◌, ◌/◌, ◌%◌, ◌≤◌, ◌<◌}
-use lib.ListN.{length, drop, take, set, get_or, replicate, length-append, length-drop, replicate-append-replicate}
+use lib.ListN.{length, drop, take, set, get_or, replicate, length-append, length-drop}
 use lib.Dec.{ltb}
 use borrow.Author.Tests.{ltb-false, ltb-true}
-use lib.Seq.{take-suc, take_all, take-suc-set}
-use Rattle.output.specs.declared.Ending.TheVariants.{At, Full}
+use lib.Seq.{take-suc}
 use Rattle.output.specs.Output.{full, Written, Appends, Finishes, output, ended, zeros, digits_of}
 use Rattle.output.specs.Appending.{then, appends_as, append_none}
 
@@ -52,10 +52,6 @@ put_past i x b ge = record { appends = λ t o w. past t o w }
 pub next_of : (s : List ℕ) (i : ℕ) {c d e : ℕ} {x y z : List ℕ} → i < length s → Appends (take i s) c x d y → Appends (get_or s i 0 ∷ []) d y e z → Appends (take (i + 1) s) c x e z
 next_of s i lt p q = appends_as (sym (take-suc s i 0 lt) ∙ ap (λ k. take k s) (sym (add-one i))) (then p q)
 
--- all bytes
-pub all_of : (s : List ℕ) (i : ℕ) {c d : ℕ} {x y : List ℕ} → length s ≤ i → Appends (take i s) c x d y → Appends s c x d y
-all_of s i ge p = appends_as (take_all i s ge) p
-
 -- ── digits ──
 
 -- no digit
@@ -86,34 +82,21 @@ more_digits {k = suc k} {n = n} ne ge e p q = appends_as (ap (λ a. digits_of k 
 -- ── the end ──
 
 -- a text that had room
-pub finish_at : (n : ℕ) (x : List ℕ) → (n ≡ full → ⊥) → Finishes n x (At n) x
+pub finish_at : (n : ℕ) (x : List ℕ) → (n ≡ full → ⊥) → Finishes n x (Some n) x
 unfolding ended
 finish_at n x ne = record { finishes = λ t o w. by t o w (ltb (length o) (length t)) refl }
   where
-    by : (t o : List ℕ) → Written t o n x → (b : Bool) → ltb (length o) (length t) ≡ b → output (At n) x ≡ cond b (output Full (zeros o)) (output (At (length t)) (t ++ drop (length t) o))
+    by : (t o : List ℕ) → Written t o n x → (b : Bool) → ltb (length o) (length t) ≡ b → output (Some n) x ≡ cond b (output None (zeros o)) (output (Some (length t)) (t ++ drop (length t) o))
     by t o (inl w) true e = absurd (omega (arith, ltb-true (length o) (length t) e, w.1))
-    by t o (inl w) false e = ap (λ k. output (At k) x) w.0 ∙ ap (λ l. output (At (length t)) l) w.2
+    by t o (inl w) false e = ap (λ k. output (Some k) x) w.0 ∙ ap (λ l. output (Some (length t)) l) w.2
     by t o (inr w) b e = absurd (ne w.0)
 
 -- a text that had none
-pub finish_full : {n : ℕ} {x y : List ℕ} → n ≡ full → length x < full → y ≡ zeros x → Finishes n x Full y
+pub finish_full : {n : ℕ} {x y : List ℕ} → n ≡ full → length x < full → y ≡ zeros x → Finishes n x None y
 unfolding ended
-finish_full {n = n} {x = x} {y = y} e short z = subst (λ y. Finishes n x Full y) (sym z) (record { finishes = λ t o w. by t o w (ltb (length o) (length t)) refl })
+finish_full {n = n} {x = x} {y = y} e short z = subst (λ y. Finishes n x None y) (sym z) (record { finishes = λ t o w. by t o w (ltb (length o) (length t)) refl })
   where
-    by : (t o : List ℕ) → Written t o n x → (b : Bool) → ltb (length o) (length t) ≡ b → output Full (zeros x) ≡ cond b (output Full (zeros o)) (output (At (length t)) (t ++ drop (length t) o))
+    by : (t o : List ℕ) → Written t o n x → (b : Bool) → ltb (length o) (length t) ≡ b → output None (zeros x) ≡ cond b (output None (zeros o)) (output (Some (length t)) (t ++ drop (length t) o))
     by t o (inl w) b q = absurd (omega (arith, e, short, w.0, w.1, ap length w.2, over_length t o w.1))
-    by t o (inr w) true q = ap (λ k. output Full (replicate k 0)) w.2
+    by t o (inr w) true q = ap (λ k. output None (replicate k 0)) w.2
     by t o (inr w) false q = absurd (omega (arith, ltb-false (length o) (length t) q, w.1))
-
--- ── zeros ──
-
--- one zero more
-pub zero_next : (x : List ℕ) (i : ℕ) → i < length x → take i x ≡ replicate i 0 → take (i + 1) (set x i 0) ≡ replicate (i + 1) 0
-zero_next x i lt e = ap (λ k. take k (set x i 0)) (add-one i) ∙ take-suc-set x i 0 lt ∙ ap (λ l. l ++ (0 ∷ [])) e ∙ replicate-append-replicate i 1 0
-
--- zeros throughout
-pub zero_all : (o x : List ℕ) (i : ℕ) → length x ≤ i → i ≤ length x → take i x ≡ replicate i 0 → length x ≡ length o → x ≡ zeros o
-zero_all o x i ge le e same = sym (take_all i x ge) ∙ e ∙ ap (λ k. replicate k 0) (last ∙ same)
-  where
-    last : i ≡ length x
-    last = omega (arith, ge, le)

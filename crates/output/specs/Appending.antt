@@ -1,7 +1,6 @@
 -- Texts one behind the other. Assumes nothing.
 use Rattle.std.proofs.Common.{arith, sym, subst, inl, append_assoc, append-nil}
-use Rattle.std.specs.Prelude.{◌≡◌, refl, List, [], ◌++◌, ℕ}
-use Rattle.output.specs.declared.Ending.{Ending}
+use Rattle.std.specs.Prelude.{◌≡◌, refl, List, [], ◌++◌, ℕ, Option}
 use Rattle.output.specs.Output.{Written, Appends, Finishes, output, ended}
 
 -- nothing is written yet
@@ -22,5 +21,5 @@ pub appends_as : {u v : List ℕ} {c d : ℕ} {x y : List ℕ} → u ≡ v → A
 appends_as {c = c} {d = d} {x = x} {y = y} e p = subst (λ u. Appends u c x d y) e p
 
 -- a whole text into an output, and its end
-pub whole : {u : List ℕ} {c : ℕ} {d : Ending} {x y z : List ℕ} → Appends u 0 x c y → Finishes c y d z → output d z ≡ ended u x
+pub whole : {u : List ℕ} {c : ℕ} {d : Option ℕ} {x y z : List ℕ} → Appends u 0 x c y → Finishes c y d z → output d z ≡ ended u x
 whole {x = x} p q = q.finishes _ _ (p.appends [] x (started x))

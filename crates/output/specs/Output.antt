@@ -1,7 +1,5 @@
 -- A text as a list of bytes, and what a lent output is with a text written over its first bytes. Definitions alone.
-use Rattle.std.specs.Prelude.{◌≡◌, List, [], ◌∷◌, ◌++◌, ◌⊎◌, cond, ℕ, zero, suc, ◌+◌, ◌/◌, ◌%◌, ◌≤◌, ◌<◌, length, replicate, drop, ltb}
-use Rattle.output.specs.declared.Ending.{Ending}
-use Rattle.output.specs.declared.Ending.TheVariants.{At, Full}
+use Rattle.std.specs.Prelude.{◌≡◌, List, [], ◌∷◌, ◌++◌, ◌⊎◌, cond, ℕ, zero, suc, ◌+◌, ◌/◌, ◌%◌, ◌≤◌, ◌<◌, length, replicate, drop, ltb, None, Option, Some}
 
 -- ── texts ──
 
@@ -26,15 +24,15 @@ zeros o = replicate (length o) 0
 
 -- where a text ends, and the bytes of the output
 pub record Output : Type 0 where
-  pub ending : Ending
+  pub ending : Option ℕ
   pub bytes : List ℕ
 
-abbrev pub output : Ending → List ℕ → Output
+abbrev pub output : Option ℕ → List ℕ → Output
 output e x = record { ending = e; bytes = x }
 
 -- the output o once the text t is written: its first bytes are t, those after it unchanged; zeros throughout where t has no room
 unfoldable pub ended : List ℕ → List ℕ → Output
-ended t o = cond (ltb (length o) (length t)) (output Full (zeros o)) (output (At (length t)) (t ++ drop (length t) o))
+ended t o = cond (ltb (length o) (length t)) (output None (zeros o)) (output (Some (length t)) (t ++ drop (length t) o))
 
 -- ── while a text is written ──
 
@@ -59,5 +57,5 @@ pub record Appends (u : List ℕ) (c : ℕ) (x : List ℕ) (d : ℕ) (y : List �
   pub appends : (t o : List ℕ) → Written t o c x → Written (t ++ u) o d y
 
 -- whatever text was written, it is ended
-pub record Finishes (c : ℕ) (x : List ℕ) (d : Ending) (y : List ℕ) : Type 0 where
+pub record Finishes (c : ℕ) (x : List ℕ) (d : Option ℕ) (y : List ℕ) : Type 0 where
   pub finishes : (t o : List ℕ) → Written t o c x → output d y ≡ ended t o

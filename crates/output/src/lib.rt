@@ -2,20 +2,11 @@
 // and so it stays. The bytes behind the text are unchanged as long as all of it has room.
 #![tactic(auto)]
 
-ghost use Rattle.std.specs.Prelude.{◌∷◌, [], ◌++◌, ◌≡◌, ◌+◌, ◌%◌};
-ghost use Rattle.output.specs.Output.{Appends, Finishes, number_text, digits_of, newline, zeros};
+ghost use Rattle.std.specs.Prelude.{◌∷◌, [], ◌++◌};
+ghost use Rattle.output.specs.Output.{Appends, Finishes, number_text, digits_of, newline};
 
 // The cursor behind a byte that had no room: no output is that long.
-pub const FULL: usize = 18446744073709551615;
-
-// Where a text ends.
-#[derive(Clone, Copy)]
-pub enum Ending {
-    // At this place of the output.
-    At(usize),
-    // A byte had no room.
-    Full,
-}
+pub const FULL: usize = usize::MAX;
 
 // A byte.
 pub fn put(out: &mut [u8], c: usize, b: u8) -> usize
@@ -23,9 +14,10 @@ pub fn put(out: &mut [u8], c: usize, b: u8) -> usize
 {
     if c < out.len() {
         out[c] = b;
-        return c + 1;
+        c + 1
+    } else {
+        FULL
     }
-    FULL
 }
 
 // Bytes.
@@ -33,87 +25,32 @@ pub fn put_all(out: &mut [u8], c: usize, s: &[u8]) -> usize
     ensures { Appends s.now c out.old result out.new }
 {
     let mut d = c;
-    let mut i = 0;
-    while i < s.len() {
-        d = put(out, d, s[i]);
-        i += 1;
+    for &b in s {
+        d = put(out, d, b);
     }
     d
 }
 
-// The last digit of a number.
-fn last_digit(n: usize) -> u8
-    ensures { result ≡ 48 + n % 10 }
-{
-    48 + (n % 10) as u8
-}
-
-// The digits of a number, at most k of them.
+// The digits of a number, at most k of them, the last ones.
 fn put_digits(out: &mut [u8], c: usize, n: usize, k: u8) -> usize
     ensures { Appends (digits_of k n) c out.old result out.new }
 {
     if k == 0 {
         return c;
     }
-    if n < 10 {
-        return put(out, c, last_digit(n));
-    }
-    let d = put_digits(out, c, n / 10, k - 1);
-    put(out, d, last_digit(n))
+    let d = if n < 10 {
+        c
+    } else {
+        put_digits(out, c, n / 10, k - 1)
+    };
+    put(out, d, b'0' + (n % 10) as u8)
 }
 
-// The digits of a number, most often of one.
-fn put_ones(out: &mut [u8], c: usize, n: usize) -> usize
-    ensures { Appends (digits_of 16 n) c out.old result out.new }
-{
-    if n < 10 {
-        return put(out, c, last_digit(n));
-    }
-    put_digits(out, c, n, 16)
-}
-
-// Those of a number, most often below a hundred.
-fn put_tens(out: &mut [u8], c: usize, n: usize) -> usize
-    ensures { Appends (digits_of 17 n) c out.old result out.new }
-{
-    if n < 10 {
-        return put(out, c, last_digit(n));
-    }
-    let d = put_ones(out, c, n / 10);
-    put(out, d, last_digit(n))
-}
-
-// Below a thousand.
-fn put_hundreds(out: &mut [u8], c: usize, n: usize) -> usize
-    ensures { Appends (digits_of 18 n) c out.old result out.new }
-{
-    if n < 10 {
-        return put(out, c, last_digit(n));
-    }
-    let d = put_tens(out, c, n / 10);
-    put(out, d, last_digit(n))
-}
-
-// Below ten thousand.
-fn put_thousands(out: &mut [u8], c: usize, n: usize) -> usize
-    ensures { Appends (digits_of 19 n) c out.old result out.new }
-{
-    if n < 10 {
-        return put(out, c, last_digit(n));
-    }
-    let d = put_hundreds(out, c, n / 10);
-    put(out, d, last_digit(n))
-}
-
-// A number in decimal digits. Those that a cell can have take no turn of `put_digits`.
+// A number in decimal digits, of which it has at most twenty.
 pub fn put_number(out: &mut [u8], c: usize, n: usize) -> usize
     ensures { Appends (number_text n) c out.old result out.new }
 {
-    if n < 10 {
-        return put(out, c, last_digit(n));
-    }
-    let d = put_thousands(out, c, n / 10);
-    put(out, d, last_digit(n))
+    put_digits(out, c, n, 20)
 }
 
 // Bytes, and a number behind them.
@@ -132,24 +69,14 @@ pub fn put_line(out: &mut [u8], c: usize, s: &[u8], n: usize) -> usize
     put(out, d, b'\n')
 }
 
-// Zeros throughout.
-fn clear(out: &mut [u8])
-    ensures { out.new ≡ zeros out.old }
-{
-    let mut j = 0;
-    while j < out.len() {
-        out[j] = 0;
-        j += 1;
-    }
-}
-
-// The end of a text: where it had no room, zeros throughout.
-pub fn finish(out: &mut [u8], c: usize) -> Ending
+// The end of a text, None where it had no room; then the output is zeros throughout.
+pub fn finish(out: &mut [u8], c: usize) -> Option<usize>
     ensures { Finishes c out.old result out.new }
 {
     if c == FULL {
-        clear(out);
-        return Ending::Full;
+        out.fill(0);
+        None
+    } else {
+        Some(c)
     }
-    Ending::At(c)
 }

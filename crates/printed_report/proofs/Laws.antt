@@ -1,4 +1,5 @@
 -- What each return shows, over plain variables. Assumes nothing.
+use Rattle.std.specs.Prelude.{Option}
 use mathlib.Core.Path.{◌≡◌, ap, sym, ◌∙◌}
 use mathlib.Core.List.{List, []}
 use Prim.Native.Nat.{ℕ}
@@ -7,7 +8,6 @@ use Rattle.body.specs.Body.{rows_length, cells_length}
 use Rattle.errors.specs.Rows.{zero_row}
 use Rattle.answers.specs.declared.Answer.{Answer}
 use Rattle.answers.specs.Lent.{Lent, lent, nodes_length, vars_length, types_length, errors_length, memory_length}
-use Rattle.output.specs.declared.Ending.{Ending}
 use Rattle.output.specs.Output.{Appends, Finishes, output, ended}
 use Rattle.output.specs.Appending.{whole}
 use Rattle.report_text.specs.declared.Reported.{Reported}
@@ -17,7 +17,7 @@ use Rattle.report.specs.Parts.{TablesReported}
 use Rattle.printed_report.specs.Printed.{lent_tables, printed, nine_line, text_bytes, printed_text, printed_by, printed_of}
 
 -- a text into an output, and how many bytes it has
-pub text_printed : (t o x y : List ℕ) (c n : ℕ) (d : Ending) → Appends t 0 o c x → Finishes c x d y → text_bytes d ≡ n → printed n y ≡ printed_text (ended t o)
+pub text_printed : (t o x y : List ℕ) (c n : ℕ) (d : Option ℕ) → Appends t 0 o c x → Finishes c x d y → text_bytes d ≡ n → printed n y ≡ printed_text (ended t o)
 text_printed t o x y c n d p q e = ap (λ k. printed k y) (sym e) ∙ ap printed_text (whole p q)
 
 -- a report that had room

@@ -1,11 +1,9 @@
 -- What `typereport` prints of the bytes that it read. Definitions alone.
-use Rattle.std.specs.Prelude.{List, [], ◌++◌, ℕ, replicate, take}
+use Rattle.std.specs.Prelude.{List, [], ◌++◌, ℕ, replicate, take, None, Option, Some}
 use Rattle.lex.specs.Text.{text}
 use Rattle.body.specs.Body.{rows_length, cells_length}
 use Rattle.errors.specs.Rows.{zero_row}
 use Rattle.answers.specs.Lent.{Lent, lent, nodes_length, vars_length, types_length, errors_length, memory_length}
-use Rattle.output.specs.declared.Ending.{Ending}
-use Rattle.output.specs.declared.Ending.TheVariants.{At, Full}
 use Rattle.output.specs.Output.{Output, newline, ended}
 use Rattle.report_text.specs.declared.Reported.{Reported}
 use Rattle.report_text.specs.declared.Reported.TheVariants.{Written, NoRoom}
@@ -32,9 +30,9 @@ abbrev pub nine_line : List ℕ
 nine_line = text "answer=9,-" ++ newline
 
 -- how many bytes a text has that ends so: none where it had no room
-abbrev pub text_bytes : Ending → ℕ
-text_bytes (At n) = n
-text_bytes Full = 0
+abbrev pub text_bytes : Option ℕ → ℕ
+text_bytes (Some n) = n
+text_bytes None = 0
 
 -- a text that was written
 abbrev pub printed_text : Output → Printed

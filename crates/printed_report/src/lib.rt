@@ -5,7 +5,6 @@ ghost use Rattle.std.specs.Prelude.{◌≡◌};
 ghost use Rattle.output.specs.Output.{ended};
 ghost use Rattle.printed_report.specs.Printed.{printed, nine_line, printed_text, printed_by, printed_of};
 
-use output::Ending;
 use report_text::Reported;
 
 // The line of 9, and how many bytes it has. Where it has no room, the output is zero throughout.
@@ -14,8 +13,8 @@ fn put_nine(out: &mut [u8]) -> usize
 {
     let c = output::put_all(out, 0, b"answer=9,-\n");
     match output::finish(out, c) {
-        Ending::At(n) => n,
-        Ending::Full => 0,
+        Some(n) => n,
+        None => 0,
     }
 }
 
@@ -24,8 +23,8 @@ fn put_answered(r: Reported, out: &mut [u8]) -> usize
     ensures { printed result out.new ≡ printed_by r out.old }
 {
     match r {
-        Reported::Written(a, n) => n,
-        Reported::NoRoom(a) => put_nine(out),
+        Reported::Written(_, n) => n,
+        Reported::NoRoom(_) => put_nine(out),
     }
 }
 

@@ -6,52 +6,28 @@
 use body_text::Room;
 use conflict_check::Quarreled;
 use conflict_set::{Lines, Sought};
-use decimal::Decimal;
 
-// ── printing ──
-
-// A text. What standard output does not take is lost.
-fn put(rt: &impl Print, s: &[u8]) {
-    let _ = rt.write_all(s);
-}
-
-// A byte, a slash for a line feed.
-fn slashed(b: u8) -> u8 {
-    if b == b'\n' { b'/' } else { b }
-}
-
-// A slash for each line feed.
-fn slash(s: &mut [u8]) {
-    let mut i = 0;
-    while i < s.len() {
-        s[i] = slashed(s[i]);
-        i += 1;
-    }
-}
+// ── printing: what standard output does not take is lost ──
 
 // The first n bytes, a slash for each line feed.
 fn put_slashed(rt: &impl Print, s: &mut [u8], n: usize) {
-    if n <= s.len() {
-        slash(&mut s[0..n]);
-        put(rt, &s[0..n]);
+    if let Some(text) = s.get_mut(..n) {
+        for b in text.iter_mut() {
+            if *b == b'\n' {
+                *b = b'/';
+            }
+        }
+        let _ = rt.write_all(text);
     }
-}
-
-// Whether the bytes from n on are b.
-fn rest_is(s: &[u8], n: usize, b: u8) -> bool {
-    if n <= s.len() {
-        return sample_input::bytes_filled(s, n, b);
-    }
-    false
 }
 
 // Whether what is behind the text is as it was, or on a refusal the whole output zero.
 fn right_behind(r: Quarreled, out: &[u8]) -> bool {
     match r {
-        Quarreled::Refused(a) => sample_input::bytes_filled(out, 0, 0),
-        Quarreled::Written(a, n) => rest_is(out, n, samples::BYTE_BEFORE),
-        Quarreled::Nothing(a) => sample_input::bytes_filled(out, 0, 0),
-        Quarreled::NoRoom(a) => sample_input::bytes_filled(out, 0, 0),
+        Quarreled::Written(_, n) => {
+            n <= out.len() && sample_input::bytes_filled(out, n, samples::BYTE_BEFORE)
+        }
+        _ => sample_input::bytes_filled(out, 0, 0),
     }
 }
 
@@ -59,49 +35,19 @@ fn right_behind(r: Quarreled, out: &[u8]) -> bool {
 fn put_run(rt: &impl Print, r: Quarreled, out: &mut [u8]) {
     let mut line = [0u8; quarrel_line::LINE];
     let n = quarrel_line::answer_line(&mut line, r);
-    put(rt, b" ");
+    let _ = rt.print(' ');
     put_slashed(rt, &mut line, n);
     if !right_behind(r, out) {
-        put(rt, b"(behind the text)");
+        let _ = rt.print("(behind the text)");
     }
     put_slashed(rt, out, quarrel_line::text_length(r));
 }
 
 // ── bodies ──
 
-// A body on these tables and this output.
-fn run_body(
-    rt: &impl Print,
-    s: &[u8],
-    rows: &mut [u16],
-    cells: &mut [u16],
-    nodes: &mut [u16],
-    vars: &mut [u16],
-    types: &mut [u16],
-    errors: usize,
-    log: &mut [u16],
-    memory: &mut [u16],
-    out: &mut [u8],
-    q: Sought,
-) {
-    let r = conflict_check::quarrel_tables(
-        s, rows, cells, nodes, vars, types, errors, log, memory, out, q,
-    );
-    put_run(rt, r, out);
-}
-
 // A body on tables and an output that are lent as its name says.
-fn run_tables(rt: &impl Print, name: &[u8], s: &[u8], q: Sought) {
-    let k = samples::lengths_of(name);
-    let a = k.rows;
-    let b = k.cells;
-    let c = k.nodes;
-    let d = k.vars;
-    let f = k.types;
-    let g = k.errors;
-    let h = k.log;
-    let i = k.memory;
-    let j = k.out;
+fn run_tables(rt: &impl Print, name: &[u8], body: &[u8], sought: Sought) {
+    let lent = samples::lengths_of(name);
     let mut rows = [samples::BEFORE; samples::ROWS];
     let mut cells = [samples::BEFORE; samples::CELLS];
     let mut nodes = [samples::BEFORE; samples::NODES];
@@ -110,35 +56,31 @@ fn run_tables(rt: &impl Print, name: &[u8], s: &[u8], q: Sought) {
     let mut log = [samples::BEFORE; samples::LOG];
     let mut memory = [samples::BEFORE; samples::MEMORY];
     let mut out = [samples::BYTE_BEFORE; samples::LONGEST];
-    run_body(
-        rt,
-        s,
-        &mut rows[0..a],
-        &mut cells[0..b],
-        &mut nodes[0..c],
-        &mut vars[0..d],
-        &mut types[0..f],
-        g / 9,
-        &mut log[0..h],
-        &mut memory[0..i],
-        &mut out[0..j],
-        q,
+    let out = &mut out[..lent.out];
+    let quarreled = conflict_check::quarrel_tables(
+        body,
+        &mut rows[..lent.rows],
+        &mut cells[..lent.cells],
+        &mut nodes[..lent.nodes],
+        &mut vars[..lent.vars],
+        &mut types[..lent.types],
+        lent.errors / 9,
+        &mut log[..lent.log],
+        &mut memory[..lent.memory],
+        out,
+        sought,
     );
+    put_run(rt, quarreled, out);
 }
 
-// The first n bytes of the room: the minimal conflict, with both forms of the lines.
-fn run_minimal(rt: &impl Print, name: &[u8], room: &[u8], n: usize) {
-    if n <= room.len() {
-        run_tables(rt, name, &room[0..n], Sought::Minimal(Lines::Numbers));
-        run_tables(rt, name, &room[0..n], Sought::Minimal(Lines::Places));
-    }
-}
-
-// The same with a search.
-fn run_shortest(rt: &impl Print, name: &[u8], room: &[u8], n: usize, b: u64) {
-    if n <= room.len() {
-        run_tables(rt, name, &room[0..n], Sought::Shortest(Lines::Numbers, b));
-        run_tables(rt, name, &room[0..n], Sought::Shortest(Lines::Places, b));
+// A body, with both forms of the lines: its minimal conflict, or with a number of subsets that may be tested a shortest one.
+fn run_body(rt: &impl Print, name: &[u8], body: &[u8], subsets: Option<u64>) {
+    for lines in [Lines::Numbers, Lines::Places] {
+        let sought = match subsets {
+            None => Sought::Minimal(lines),
+            Some(n) => Sought::Shortest(lines, n),
+        };
+        run_tables(rt, name, body, sought);
     }
 }
 
@@ -154,17 +96,10 @@ pub enum Cases {
 // A case with its name alone.
 fn run_named(rt: &impl Print, s: &[u8], room: &mut Room) {
     let e = body_text::find(s, 0, b' ');
-    put(rt, &s[0..e]);
+    let name = &s[..e];
+    let _ = rt.write_all(name);
     let n = body_text::expand_line(room, s, e);
-    run_minimal(rt, &s[0..e], room, n);
-}
-
-// A body with the number that a text is.
-fn run_number(rt: &impl Print, name: &[u8], number: &[u8], room: &[u8], n: usize) {
-    match decimal::number(number) {
-        Decimal::Is(b) => run_shortest(rt, name, room, n, b),
-        Decimal::Bad => put(rt, b" (no number)"),
-    }
+    run_body(rt, name, &room[..n], None);
 }
 
 // A case with its name and a number.
@@ -172,38 +107,25 @@ fn run_numbered(rt: &impl Print, s: &[u8], room: &mut Room) {
     let e = body_text::find(s, 0, b' ');
     if e < s.len() {
         let f = body_text::find(s, e + 1, b' ');
-        put(rt, &s[0..f]);
+        let _ = rt.write_all(&s[..f]);
         let n = body_text::expand_line(room, s, f);
-        run_number(rt, &s[0..e], &s[e + 1..f], room, n);
+        match decimal::number(&s[e + 1..f]) {
+            Some(subsets) => run_body(rt, &s[..e], &room[..n], Some(subsets)),
+            None => {
+                let _ = rt.print(" (no number)");
+            }
+        }
     }
-}
-
-// A case.
-fn run_case(rt: &impl Print, s: &[u8], room: &mut Room, k: Cases) {
-    match k {
-        Cases::Minimal => run_named(rt, s, room),
-        Cases::Shortest => run_numbered(rt, s, room),
-    }
-    put(rt, b"\n");
 }
 
 // A line: a comment, or a case.
 fn run_line(rt: &impl Print, s: &[u8], room: &mut Room, k: Cases) {
     if body_text::has_body(s) {
-        run_case(rt, s, room, k);
-    }
-}
-
-// The lines of a text.
-fn run_lines(rt: &impl Print, s: &[u8], room: &mut Room, k: Cases) {
-    let mut at = 0;
-    while at < s.len() {
-        let end = body_text::find(s, at, b'\n');
-        run_line(rt, &s[at..end], room, k);
-        if s.len() <= end {
-            return;
+        match k {
+            Cases::Minimal => run_named(rt, s, room),
+            Cases::Shortest => run_numbered(rt, s, room),
         }
-        at = end + 1;
+        let _ = rt.print('\n');
     }
 }
 
@@ -212,5 +134,7 @@ pub fn run(rt: &(impl Input + Print), k: Cases) {
     let mut room = [0u8; body_text::ROOM];
     let mut text = [0u8; body_input::TEXT];
     let n = body_input::read_full(rt, &mut text);
-    run_lines(rt, &text[..n], &mut room, k);
+    for line in text[..n].split(|b| *b == b'\n') {
+        run_line(rt, line, &mut room, k);
+    }
 }

@@ -10,10 +10,9 @@ pub const LINE: usize = 64;
 
 // The line of Check's own refusal: its report, which reads no table.
 fn refusal_line(line: &mut [u8], a: Answer) -> usize {
-    let none = [0u16; 0];
-    match report_text::write_report(line, a, &none, &none, &none, &none) {
-        Reported::Written(b, n) => n,
-        Reported::NoRoom(b) => 0,
+    match report_text::write_report(line, a, &[], &[], &[], &[]) {
+        Reported::Written(_, n) => n,
+        Reported::NoRoom(_) => 0,
     }
 }
 
@@ -21,18 +20,16 @@ fn refusal_line(line: &mut [u8], a: Answer) -> usize {
 pub fn answer_line(line: &mut [u8], r: Quarreled) -> usize {
     match r {
         Quarreled::Refused(a) => refusal_line(line, a),
-        Quarreled::Written(a, n) => output::put_all(line, 0, b"answer=0,-\n"),
-        Quarreled::Nothing(a) => output::put_all(line, 0, b"answer=14,-\n"),
-        Quarreled::NoRoom(a) => output::put_all(line, 0, b"answer=9,-\n"),
+        Quarreled::Written(..) => output::put_all(line, 0, b"answer=0,-\n"),
+        Quarreled::Nothing(_) => output::put_all(line, 0, b"answer=14,-\n"),
+        Quarreled::NoRoom(_) => output::put_all(line, 0, b"answer=9,-\n"),
     }
 }
 
 // How many bytes of the output are text.
 pub fn text_length(r: Quarreled) -> usize {
     match r {
-        Quarreled::Refused(a) => 0,
-        Quarreled::Written(a, n) => n,
-        Quarreled::Nothing(a) => 0,
-        Quarreled::NoRoom(a) => 0,
+        Quarreled::Written(_, n) => n,
+        _ => 0,
     }
 }

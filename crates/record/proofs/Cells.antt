@@ -1,17 +1,21 @@
 -- What each return of a function over the cells of nodes and errors shows, over plain variables.
-use mathlib.Core.Path.{◌≡◌, refl, sym, ap, ◌∙◌}
+use Rattle.std.specs.Prelude.{None, Option as Option·R, Some}
+use mathlib.Core.Path.{◌≡◌, refl, sym, ap, subst, ◌∙◌}
 use mathlib.Core.List.{List, [], ◌∷◌}
 use mathlib.Core.Option.{Option, none, some}
-use Prim.Native.Nat.{ℕ, suc, ◌+◌, ◌-◌, ◌*◌, ◌≤◌, ◌<◌}
+use Prim.Native.Nat.{ℕ, suc, zero, ◌+◌, ◌-◌, ◌*◌, ◌≤◌, ◌<◌}
 use native.Mathlib.Omega.{arith}
-use lib.ListN.{get_or, set}
-use lib.Seq.{sets}
+use lib.ListN.{length, take, drop, length-drop, get_or, set, replicate, length-replicate}
+use lib.Seq.{sets, paste}
+use native.Mathlib.Numerals.{add-one}
+use borrow.Rule.Slice.PartMut.{put_mid}
+use Rattle.std.proofs.lemmas.List.Edits.{paste_none, fill_from_more}
+use Rattle.std.proofs.lemmas.List.{length-take-le}
+use Rattle.std.proofs.lemmas.Slice.{put_mid-paste}
 use borrow.Author.Tests.{eq-eqb, ne_eqb}
 use Rattle.type_table.specs.declared.TypeId.{TypeId}
 use Rattle.type_table.specs.Memory.{cell}
 use Rattle.type_table.specs.Tables.{get_d_tab, tab_out}
-use Rattle.record.specs.declared.NodeType.{NodeType}
-use Rattle.record.specs.declared.NodeType.TheVariants.{Typed, Untyped}
 use Rattle.record.specs.declared.Extra.{Extra}
 use Rattle.record.specs.declared.TypingError.{TypingError}
 use Rattle.record.specs.declared.Record.{Record}
@@ -25,7 +29,7 @@ use Rattle.record.specs.Writes.{typed_does, marked_does, resolved_does, emit_mor
 
 module _ (m : List ℕ) (n : ℕ) where
   -- what is no node has none
-  pub node_out : most_nodes ≤ n → Untyped ≡ node_type (get_or (raws_of m) n none)
+  pub node_out : most_nodes ≤ n → None ≡ node_type (get_or (raws_of m) n none)
   node_out h = sym (ap node_type (tab_out (raw_at m) most_nodes n none h))
 
   module _ (h : n < most_nodes) (f : ℕ) (p : f ≡ cell m (nodes_at + n * 6)) where
@@ -40,30 +44,30 @@ module _ (m : List ℕ) (n : ℕ) where
     raw_untyped q = let z : nodes_at + n * 6 + 0 ≡ nodes_at + n * 6 = omega arith in rw (z, ← p, ne_eqb f 1 q)
 
     -- a typed node
-    pub node_typed : (x : ℕ) → f ≡ 1 → x ≡ cell m (nodes_at + n * 6 + 1) → Typed (record { 0 = x }) ≡ node_type (get_or (raws_of m) n none)
+    pub node_typed : (x : ℕ) → f ≡ 1 → x ≡ cell m (nodes_at + n * 6 + 1) → Some (record { 0 = x }) ≡ node_type (get_or (raws_of m) n none)
     node_typed x q r = sym (ap node_type (get_d_tab (raw_at m) most_nodes n none h ∙ raw_typed x q r))
 
     -- an untyped node
-    pub node_untyped : (f ≡ 1 → ⊥) → Untyped ≡ node_type (get_or (raws_of m) n none)
+    pub node_untyped : (f ≡ 1 → ⊥) → None ≡ node_type (get_or (raws_of m) n none)
     node_untyped q = sym (ap node_type (get_d_tab (raw_at m) most_nodes n none h ∙ raw_untyped q))
 
 -- the type of what is typed
-typed_or_nil : (o : Option ℕ) (r : NodeType) (t : TypeId) → r ≡ node_type o → r ≡ Typed t → t.0 ≡ or_nil o
+typed_or_nil : (o : Option ℕ) (r : Option·R TypeId) (t : TypeId) → r ≡ node_type o → r ≡ Some t → t.0 ≡ or_nil o
 typed_or_nil none r t p q = let z : ◌≡◌ {A = ℕ} 0 1 = cc in absurd (omega arith)
 typed_or_nil (some x) r t p q = let e : record { 0 = x } ≡ t = cc in ap (λ (y : TypeId). y.0) (sym e)
 
 -- Nil for what is not
-untyped_nil : (o : Option ℕ) (r : NodeType) → r ≡ node_type o → r ≡ Untyped → 0 ≡ or_nil o
+untyped_nil : (o : Option ℕ) (r : Option·R TypeId) → r ≡ node_type o → r ≡ None → 0 ≡ or_nil o
 untyped_nil none r p q = refl
 untyped_nil (some x) r p q = let z : ◌≡◌ {A = ℕ} 0 1 = cc in absurd (omega arith)
 
-module _ (m : List ℕ) (n : ℕ) (r : NodeType) where
+module _ (m : List ℕ) (n : ℕ) (r : Option·R TypeId) where
   -- the type of a typed node
-  pub nil_typed : (t : TypeId) → r ≡ node_type (get_or (raws_of m) n none) → r ≡ Typed t → t.0 ≡ or_nil (get_or (raws_of m) n none)
+  pub nil_typed : (t : TypeId) → r ≡ node_type (get_or (raws_of m) n none) → r ≡ Some t → t.0 ≡ or_nil (get_or (raws_of m) n none)
   nil_typed t p q = typed_or_nil (get_or (raws_of m) n none) r t p q
 
   -- Nil for an untyped one
-  pub nil_untyped : r ≡ node_type (get_or (raws_of m) n none) → r ≡ Untyped → 0 ≡ or_nil (get_or (raws_of m) n none)
+  pub nil_untyped : r ≡ node_type (get_or (raws_of m) n none) → r ≡ None → 0 ≡ or_nil (get_or (raws_of m) n none)
   nil_untyped p q = untyped_nil (get_or (raws_of m) n none) r p q
 
 -- ── two cells of a node ──
@@ -107,14 +111,18 @@ error_counted m w c e p = rw p (emit_more m c e)
 
 -- ── the nodes are cleared ──
 
--- one more cell is cleared
-pub cleared_more : (m w u : List ℕ) (i : ℕ) → nodes_at ≤ i → w ≡ cleared m (i - nodes_at) → u ≡ set w i 0 → u ≡ cleared m (i + 1 - nodes_at)
-unfolding cleared
-cleared_more m w u i h p q =
-    let y : i + 1 - nodes_at ≡ suc (i - nodes_at) = omega arith in
-    let z : nodes_at + (i - nodes_at) ≡ i = omega arith in
-    rw (y, z, ← p) q
+-- one more cell is zero
+zeros_more : (d : List ℕ) (at i : ℕ) → at + i < length d → set (paste d at (replicate i 0) i) (at + i) 0 ≡ paste d at (replicate (suc i) 0) (suc i)
+zeros_more d at i h = subst (λ (j : ℕ). set (paste d at (replicate i 0) i) (at + i) 0 ≡ paste d at (replicate j 0) j) (add-one i) (fill_from_more d at i 0 h)
 
--- all are cleared
-pub cleared_all : (m w : List ℕ) (i : ℕ) → w ≡ cleared m (i - nodes_at) → i ≤ errors_at → errors_at ≤ i → w ≡ cleared m node_cells_lem
-cleared_all m w i p l r = let z : i - nodes_at ≡ node_cells_lem = omega arith in rw z at p
+-- k cells from the nodes' first on, replaced by zeros
+cleared_paste : (m : List ℕ) (k : ℕ) → nodes_at + k ≤ length m → cleared m k ≡ paste m nodes_at (replicate k 0) k
+unfolding cleared
+cleared_paste m zero h = paste_none m nodes_at (replicate 0 0)
+cleared_paste m (suc k) h = ap (λ (w : List ℕ). set w (nodes_at + k) 0) (cleared_paste m k (omega arith)) ∙ zeros_more m nodes_at k (omega arith)
+
+-- the part of the nodes is filled with zeros
+pub cleared_filled : (m ys : List ℕ) (k : ℕ) → nodes_at + k ≤ length m → ys ≡ replicate (length (take k (drop nodes_at m))) 0 → put_mid nodes_at k m ys ≡ cleared m k
+cleared_filled m ys k h e =
+    let z : length (take k (drop nodes_at m)) ≡ k = length-take-le k (drop nodes_at m) (simp length-drop (omega arith)) in
+    put_mid-paste nodes_at k m ys (replicate k 0) k (e ∙ rw z) refl (sym (length-replicate k 0)) ∙ sym (cleared_paste m k h)

@@ -1,4 +1,5 @@
 -- What the functions that make a type, draw a variable or set a mark do is their step of a program. Over plain variables.
+use Rattle.std.specs.Prelude.{Option as Option·R}
 use mathlib.Core.Path.{◌≡◌, refl, sym, ap, ◌∙◌}
 use mathlib.Core.List.{List, [], ◌∷◌}
 use mathlib.Core.Option.{Option, none, some}
@@ -14,7 +15,6 @@ use Rattle.theory.specs.Program.{first_equal, sane, drawn, appended, pooled, int
 use Rattle.type_table.specs.declared.Counts.{Counts}
 use Rattle.type_table.specs.declared.Made.{Made}
 use Rattle.type_table.specs.declared.Kind.{Kind}
-use Rattle.type_table.specs.declared.Origin.{Origin}
 use Rattle.type_table.specs.Memory.{most_types, most_vars, kind_of, numbered}
 use Rattle.type_table.specs.Made.{kind_number, origin_number, marking, Making, making, made, draw_in, pool_cell, intern_in, intern_of}
 use Rattle.type_table.specs.Tables.{length-rows, length_kinds}
@@ -30,6 +30,7 @@ use Rattle.record.specs.Operations.{with_counts, with_made}
 use Rattle.record.specs.Regions.{own_kept, errors_kept, logged_kept}
 use Rattle.record.specs.InTables.{InTables, tables_same, Beside, beside_draw, beside_intern, beside_of, tables_mark}
 use Rattle.record.specs.Pooled.{array_fits, ref_fits, fn_fits, instance_fits}
+use Rattle.type_table.specs.declared.NodeId.{NodeId}
 
 -- ── the tables of a state ──
 
@@ -100,7 +101,7 @@ module _ (m m' : List ℕ) (c : Record) (x : Made) (r : Given) (q : r ≡ with_m
       given e p q b.in_tables sound (interned t s) g (b.inputs ∙ e.inputs ∙ sym (interned_total t s z))
 
   -- `new_infer_var`
-  pub draw_gives : (k : Kind) (o : Origin) → made x m' ≡ draw_in m c.counts k o → Gives m c m' r (new_infer_var (kind_of (kind_number k)) (numbered (origin_number o)))
+  pub draw_gives : (k : Kind) (o : Option·R NodeId) → made x m' ≡ draw_in m c.counts k o → Gives m c m' r (new_infer_var (kind_of (kind_number k)) (numbered (origin_number o)))
   unfolding new_infer_var run drawn input_total
   draw_gives k o p = record {
     ran = λ s e f. let d = c.counts in

@@ -1,5 +1,5 @@
 -- What is written as a tag and a number is read as it was.
-use Rattle.std.specs.Prelude.{◌≡◌, refl}
+use Rattle.std.specs.Prelude.{◌≡◌, refl, None, Option, Some}
 use Rattle.nodes.specs.declared.Res.{Res}
 use Rattle.nodes.specs.declared.Res.TheVariants as res
 use Rattle.nodes.specs.Nodes.{res_of}
@@ -9,9 +9,8 @@ use Rattle.record.specs.declared.ErrorKind.{ErrorKind}
 use Rattle.record.specs.declared.ErrorKind.TheVariants as error
 use Rattle.record.specs.declared.Span.{Span}
 use Rattle.record.specs.declared.Span.TheVariants as span
-use Rattle.record.specs.declared.Second.{Second}
-use Rattle.record.specs.declared.Second.TheVariants as second
 use Rattle.record.specs.Own.{extra_of, res_tag, res_value, extra_tag, extra_value, kind_number, kind_at, span_tag, span_value, span_of, second_tag, second_value, second_of}
+use Rattle.type_table.specs.declared.NodeId.{NodeId}
 
 -- RES as an EXTRA
 res_read : (r : Res) → extra_of (res_tag r) (res_value r) ≡ extra.Resolved r
@@ -54,7 +53,7 @@ span_read (span.Item d) = refl
 span_read span.Signature = refl
 
 -- Q
-pub second_read : (q : Second) → second_of (second_tag q) (second_value q) ≡ q
+pub second_read : (q : Option NodeId) → second_of (second_tag q) (second_value q) ≡ q
 unfolding second_of
-second_read second.Absent = refl
-second_read (second.At n) = refl
+second_read None = refl
+second_read (Some n) = refl

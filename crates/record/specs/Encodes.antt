@@ -1,5 +1,5 @@
 -- When a memory and a record hold a state of the walk, and what it is to run a program over them. Definitions alone.
-use Rattle.std.specs.Prelude.{◌≡◌, List, [], ◌∷◌, Bool, true, false, ℕ, ◌+◌, ◌*◌, ◌%◌, ◌≤◌, length}
+use Rattle.std.specs.Prelude.{◌≡◌, List, [], ◌∷◌, Bool, true, false, ℕ, ◌+◌, ◌*◌, ◌%◌, ◌≤◌, length, Err, Ok, Result}
 use Rattle.std.proofs.Math.Option.{none, some}
 use Rattle.theory.specs.Rules.{Shape, base, var, arr, ref, fn, fun, lam, err, div, Out, success, mismatch, refused12, refused13, dry}
 use Rattle.theory.specs.Program.{Equation, run}
@@ -10,12 +10,10 @@ use Rattle.record.specs.declared.Given.{Given}
 use Rattle.record.specs.declared.TypingError.{TypingError}
 use Rattle.record.specs.declared.Equated.{Equated}
 use Rattle.record.specs.declared.Equated.TheVariants as equated
-use Rattle.record.specs.declared.Typed.{Typed}
-use Rattle.record.specs.declared.Typed.TheVariants as typed
-use Rattle.record.specs.declared.Ruled.{Ruled}
-use Rattle.record.specs.declared.Ruled.TheVariants as ruled
 use Rattle.record.specs.Own.{most_errors, log_at, own_of, errors_of}
 use Rattle.record.specs.Steps.{State, Walk, Step, caused, error, equation}
+use Rattle.record.specs.declared.Refusal.{Refusal}
+use Rattle.type_table.specs.declared.TypeId.{TypeId}
 
 -- ── what is in the memory ──
 
@@ -108,21 +106,21 @@ abbrev pub Gives : List ℕ → Record → List ℕ → Given → Walk ℕ → T
 Gives m c m' r p = Runs m c m' r.record p r.ty.0
 
 -- by the answer
-abbrev pub TypesBy : List ℕ → Record → List ℕ → Typed → Walk ℕ → Type 0
-TypesBy m c m' (typed.Type d t) p = Runs m c m' d p t.0
-TypesBy m c m' (typed.Refused k d n) p = Stops m c m' d p k n.0
+abbrev pub TypesBy : List ℕ → Record → List ℕ → Result (Record × TypeId) Refusal → Walk ℕ → Type 0
+TypesBy m c m' (Ok (d, t)) p = Runs m c m' d p t.0
+TypesBy m c m' (Err e) p = Stops m c m' e.record p e.number e.node.0
 
 -- a program that gives a type or refuses
-pub record Types (m : List ℕ) (c : Record) (m' : List ℕ) (r : Typed) (p : Walk ℕ) : Type 0 where
+pub record Types (m : List ℕ) (c : Record) (m' : List ℕ) (r : Result (Record × TypeId) Refusal) (p : Walk ℕ) : Type 0 where
   pub by : TypesBy m c m' r p
 
 -- by the answer
-abbrev pub RulesBy : List ℕ → Record → List ℕ → Ruled → Step → Type 0
-RulesBy m c m' (ruled.Done d) p = Runs m c m' d p tt
-RulesBy m c m' (ruled.Refused k d n) p = Stops m c m' d p k n.0
+abbrev pub RulesBy : List ℕ → Record → List ℕ → Result Record Refusal → Step → Type 0
+RulesBy m c m' (Ok d) p = Runs m c m' d p tt
+RulesBy m c m' (Err e) p = Stops m c m' e.record p e.number e.node.0
 
 -- a program that gives no type, or refuses
-pub record Rules (m : List ℕ) (c : Record) (m' : List ℕ) (r : Ruled) (p : Step) : Type 0 where
+pub record Rules (m : List ℕ) (c : Record) (m' : List ℕ) (r : Result Record Refusal) (p : Step) : Type 0 where
   pub by : RulesBy m c m' r p
 
 -- by the answer

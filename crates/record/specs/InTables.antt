@@ -1,5 +1,5 @@
 -- A change in the tables of types and variables alone: each operation on them keeps the cells behind them. Assumes nothing but that the variables are within their limit.
-use Rattle.std.specs.Prelude.{◌≡◌, List, [], ◌∷◌, ℕ, suc, zero, ◌+◌, ◌*◌, ◌≤◌, ◌<◌, length, set}
+use Rattle.std.specs.Prelude.{◌≡◌, List, [], ◌∷◌, ℕ, suc, zero, ◌+◌, ◌*◌, ◌≤◌, ◌<◌, length, set, Option as Option·R}
 use Rattle.std.proofs.Math.Path.{refl}
 use Rattle.std.proofs.Common.{ap, ◌∙◌, arith, length-set}
 use Rattle.std.proofs.Math.Option.{Option}
@@ -9,7 +9,6 @@ use Rattle.theory.specs.Rules.{infer_head}
 use Rattle.theory.specs.Program.{Equation, clip}
 use Rattle.type_table.specs.declared.Counts.{Counts}
 use Rattle.type_table.specs.declared.Kind.{Kind}
-use Rattle.type_table.specs.declared.Origin.{Origin}
 use Rattle.type_table.specs.Memory.{tab, cell, cells, counts, most_types, most_vars, most_inputs, inputs_at}
 use Rattle.type_table.specs.Made.{marking, kind_number, origin_number, row_written, var_written, Making, making, Counting, pushed, draw_in, append_in, pool_cell, enter_in, intern_in, intern_of, parts_in, push_in}
 use Rattle.type_table.specs.Tables.{tab_ext}
@@ -19,6 +18,7 @@ use Rattle.unify.specs.Promise.{Frame}
 use Rattle.record.specs.declared.Extra.{Extra}
 use Rattle.record.specs.Own.{Own, most_nodes, nodes_at, errors_at, log_at, raw_at, extra_at, final_at, own_of, raws_of, error_at, errors_of}
 use Rattle.record.specs.Encodes.{LoggedAt, Logged}
+use Rattle.type_table.specs.declared.NodeId.{NodeId}
 
 -- w has the length of m, and the same cells behind the tables of types and variables
 pub record InTables (m w : List ℕ) : Type 0 where
@@ -62,7 +62,7 @@ module _ (m : List ℕ) (c : Counts) where
   beside_none x = record { in_tables = tables_same m; inputs = refl }
 
   -- a variable is drawn
-  pub beside_draw : (k : Kind) (o : Origin) → Beside m c (draw_in m c k o)
+  pub beside_draw : (k : Kind) (o : Option·R NodeId) → Beside m c (draw_in m c k o)
   unfolding draw_in
   beside_draw k o =
       let P : Making → Type 0 = Beside m c in

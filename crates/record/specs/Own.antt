@@ -1,5 +1,5 @@
 -- What the walk keeps beside the tables of the theory, and how the lent memory is read for it. Definitions alone.
-use Rattle.std.specs.Prelude.{List, [], ◌∷◌, ℕ, suc, zero, ◌+◌, ◌*◌, set, replicate, eqb}
+use Rattle.std.specs.Prelude.{List, [], ◌∷◌, ℕ, suc, zero, ◌+◌, ◌*◌, set, replicate, eqb, None, Option as Option·R, Some}
 use Rattle.std.proofs.Math.Option.{Option, none, some}
 use Rattle.type_table.specs.declared.TypeId.{TypeId}
 use Rattle.type_table.specs.declared.NodeId.{NodeId}
@@ -9,16 +9,12 @@ use Rattle.type_table.specs.Memory.{pick, tab, cell}
 use Rattle.nodes.specs.declared.Res.{Res}
 use Rattle.nodes.specs.declared.Res.TheVariants as res
 use Rattle.nodes.specs.Nodes.{res_of}
-use Rattle.record.specs.declared.NodeType.{NodeType}
-use Rattle.record.specs.declared.NodeType.TheVariants as node_type_lem
 use Rattle.record.specs.declared.Extra.{Extra}
 use Rattle.record.specs.declared.Extra.TheVariants as extra
 use Rattle.record.specs.declared.ErrorKind.{ErrorKind}
 use Rattle.record.specs.declared.ErrorKind.TheVariants as error
 use Rattle.record.specs.declared.Span.{Span}
 use Rattle.record.specs.declared.Span.TheVariants as span
-use Rattle.record.specs.declared.Second.{Second}
-use Rattle.record.specs.declared.Second.TheVariants as second
 use Rattle.record.specs.declared.TypingError.{TypingError}
 
 -- ── the regions ──
@@ -97,9 +93,9 @@ unfoldable pub blank : ℕ → Own
 blank o = record { output = o; raw = replicate most_nodes none; extra = replicate most_nodes extra.Absent; final = replicate most_nodes none }
 
 -- RAW as the code has it
-abbrev pub node_type : Option ℕ → NodeType
-node_type none = node_type_lem.Untyped
-node_type (some t) = node_type_lem.Typed (record { 0 = t })
+abbrev pub node_type : Option ℕ → Option·R TypeId
+node_type none = None
+node_type (some t) = Some (record { 0 = t })
 
 -- a node gets its type
 unfoldable pub typed : ℕ → ℕ → Own → Own
@@ -194,18 +190,18 @@ unfoldable pub span_of : ℕ → ℕ → Span
 span_of t x = pick (eqb t 0) (span.Node (record { 0 = x })) (pick (eqb t 1) (span.Item (record { 0 = x })) span.Signature)
 
 -- Q: a node, or none
-abbrev pub second_tag : Second → ℕ
-second_tag second.Absent = 0
-second_tag (second.At n) = 1
+abbrev pub second_tag : Option·R NodeId → ℕ
+second_tag None = 0
+second_tag (Some n) = 1
 
 -- its number
-abbrev pub second_value : Second → ℕ
-second_value second.Absent = 0
-second_value (second.At n) = n.0
+abbrev pub second_value : Option·R NodeId → ℕ
+second_value None = 0
+second_value (Some n) = n.0
 
 -- Q by its flag and its number
-unfoldable pub second_of : ℕ → ℕ → Second
-second_of t x = pick (eqb t 0) second.Absent (second.At (record { 0 = x }))
+unfoldable pub second_of : ℕ → ℕ → Option·R NodeId
+second_of t x = pick (eqb t 0) None (Some (record { 0 = x }))
 
 -- a cell of the error i
 abbrev pub error_cell : List ℕ → ℕ → ℕ → ℕ

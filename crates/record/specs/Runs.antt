@@ -1,5 +1,5 @@
 -- How facts about running programs are put together: one part after another, and refusals that end a program. Assumes nothing.
-use Rattle.std.specs.Prelude.{◌≡◌, Bool, true, false, ℕ, get_or}
+use Rattle.std.specs.Prelude.{◌≡◌, Bool, true, false, ℕ, get_or, Err, None, Ok, Result, Some}
 use Rattle.std.proofs.Math.Path.{refl, sym}
 use Rattle.std.proofs.Common.{◌∙◌, ap, arith}
 use mathlib.Core.List.{List}
@@ -11,17 +11,13 @@ use Rattle.type_table.specs.Sound.{state_of}
 use Rattle.type_table.specs.declared.TypeId.{TypeId}
 use Rattle.type_table.specs.declared.NodeId.{NodeId}
 use Rattle.record.specs.declared.Record.{Record}
-use Rattle.record.specs.declared.NodeType.TheVariants as node-type·V
-use Rattle.record.specs.declared.Typed.{Typed}
-use Rattle.record.specs.declared.Typed.TheVariants as typed
-use Rattle.record.specs.declared.Ruled.{Ruled}
-use Rattle.record.specs.declared.Ruled.TheVariants as ruled
 use Rattle.record.specs.declared.Equated.{Equated}
 use Rattle.record.specs.declared.Equated.TheVariants as equated
 use Rattle.record.specs.Own.{Own, raws_of, own_of, node_type}
 use Rattle.record.specs.Steps.{State, Walk, Step, node_type_lem, shape_of_lem, all_types, output}
 use Rattle.record.specs.Encodes.{Encodes, Runs, Stops, TypesBy, Types, RulesBy, Rules, Equates}
 use Rattle.record.specs.Grows.{first_fits}
+use Rattle.record.specs.declared.Refusal.{Refusal}
 
 -- the end of a walk is held where its state is
 pub encodes_refused : {m : List ℕ} {c : Record} {s : State} (k n : ℕ) → Encodes m c s → Encodes m c (refused k n s)
@@ -103,22 +99,22 @@ module _ {m : List ℕ} {c : Record} where
 -- ── an answer by its variant ──
 
 module _ {m m' : List ℕ} {c : Record} where
-  module _ {p : Walk ℕ} {r : Typed} {d : Record} where
+  module _ {p : Walk ℕ} {r : Result (Record × TypeId) Refusal} where
     -- a type
-    pub type_is : {t : TypeId} → r ≡ typed.Type d t → Types m c m' r p → Runs m c m' d p t.0
+    pub type_is : {d : Record} {t : TypeId} → r ≡ Ok (d, t) → Types m c m' r p → Runs m c m' d p t.0
     type_is e h = rw e at h.by
 
     -- a refusal
-    pub type_refused : {k : ℕ} {n : NodeId} → r ≡ typed.Refused k d n → Types m c m' r p → Stops m c m' d p k n.0
+    pub type_refused : {q : Refusal} → r ≡ Err q → Types m c m' r p → Stops m c m' q.record p q.number q.node.0
     type_refused e h = rw e at h.by
 
-  module _ {p : Step} {r : Ruled} {d : Record} where
+  module _ {p : Step} {r : Result Record Refusal} where
     -- done
-    pub rule_done : r ≡ ruled.Done d → Rules m c m' r p → Runs m c m' d p tt
+    pub rule_done : {d : Record} → r ≡ Ok d → Rules m c m' r p → Runs m c m' d p tt
     rule_done e h = rw e at h.by
 
     -- a refusal
-    pub rule_refused : {k : ℕ} {n : NodeId} → r ≡ ruled.Refused k d n → Rules m c m' r p → Stops m c m' d p k n.0
+    pub rule_refused : {q : Refusal} → r ≡ Err q → Rules m c m' r p → Stops m c m' q.record p q.number q.node.0
     rule_refused e h = rw e at h.by
 
   module _ {n : ℕ} {p : Walk Bool} {r : Equated} {d : Record} where
@@ -138,50 +134,50 @@ module _ {m m' : List ℕ} {c : Record} where
 
 module _ {A : Type 0} {m m₁ : List ℕ} {c c₁ : Record} {p : Walk A} {a : A} where
   -- by the answer
-  after_by : (m₂ : List ℕ) (g : A → Walk ℕ) (r : Typed) → Runs m c m₁ c₁ p a → TypesBy m₁ c₁ m₂ r (g a) → TypesBy m c m₂ r (◌>>=◌ p g)
-  after_by m₂ g (typed.Type d t) P Q = then g P Q
-  after_by m₂ g (typed.Refused k d n) P Q = then_stops g P Q
+  after_by : (m₂ : List ℕ) (g : A → Walk ℕ) (r : Result (Record × TypeId) Refusal) → Runs m c m₁ c₁ p a → TypesBy m₁ c₁ m₂ r (g a) → TypesBy m c m₂ r (◌>>=◌ p g)
+  after_by m₂ g (Ok (d, t)) P Q = then g P Q
+  after_by m₂ g (Err q) P Q = then_stops g P Q
 
   -- a part, and then a program that gives a type or refuses
-  pub after : {m₂ : List ℕ} (g : A → Walk ℕ) {r : Typed} → Runs m c m₁ c₁ p a → Types m₁ c₁ m₂ r (g a) → Types m c m₂ r (◌>>=◌ p g)
+  pub after : {m₂ : List ℕ} (g : A → Walk ℕ) {r : Result (Record × TypeId) Refusal} → Runs m c m₁ c₁ p a → Types m₁ c₁ m₂ r (g a) → Types m c m₂ r (◌>>=◌ p g)
   after {m₂} g {r} P Q = record { by = after_by m₂ g r P Q.by }
 
   -- by the answer
-  after_rules_by : (m₂ : List ℕ) (g : A → Step) (r : Ruled) → Runs m c m₁ c₁ p a → RulesBy m₁ c₁ m₂ r (g a) → RulesBy m c m₂ r (◌>>=◌ p g)
-  after_rules_by m₂ g (ruled.Done d) P Q = then g P Q
-  after_rules_by m₂ g (ruled.Refused k d n) P Q = then_stops g P Q
+  after_rules_by : (m₂ : List ℕ) (g : A → Step) (r : Result Record Refusal) → Runs m c m₁ c₁ p a → RulesBy m₁ c₁ m₂ r (g a) → RulesBy m c m₂ r (◌>>=◌ p g)
+  after_rules_by m₂ g (Ok d) P Q = then g P Q
+  after_rules_by m₂ g (Err q) P Q = then_stops g P Q
 
   -- a part, and then a program that gives no type, or refuses
-  pub after_rules : {m₂ : List ℕ} (g : A → Step) {r : Ruled} → Runs m c m₁ c₁ p a → Rules m₁ c₁ m₂ r (g a) → Rules m c m₂ r (◌>>=◌ p g)
+  pub after_rules : {m₂ : List ℕ} (g : A → Step) {r : Result Record Refusal} → Runs m c m₁ c₁ p a → Rules m₁ c₁ m₂ r (g a) → Rules m c m₂ r (◌>>=◌ p g)
   after_rules {m₂} g {r} P Q = record { by = after_rules_by m₂ g r P Q.by }
 
 -- ── the answer of a function, from its program ──
 
-module _ {m m' : List ℕ} {c d : Record} where
+module _ {m m' : List ℕ} {c : Record} where
   -- a type
-  pub typed_type : {p : Walk ℕ} {t : TypeId} → Runs m c m' d p t.0 → Types m c m' (typed.Type d t) p
+  pub typed_type : {p : Walk ℕ} {d : Record} {t : TypeId} → Runs m c m' d p t.0 → Types m c m' (Ok (d, t)) p
   typed_type R = record { by = R }
 
   -- a refusal
-  pub typed_refused : {p : Walk ℕ} {k : ℕ} {n : NodeId} → Stops m c m' d p k n.0 → Types m c m' (typed.Refused k d n) p
+  pub typed_refused : {p : Walk ℕ} {q : Refusal} → Stops m c m' q.record p q.number q.node.0 → Types m c m' (Err q) p
   typed_refused R = record { by = R }
 
   -- done
-  pub ruled_done : {p : Step} → Runs m c m' d p tt → Rules m c m' (ruled.Done d) p
+  pub ruled_done : {p : Step} {d : Record} → Runs m c m' d p tt → Rules m c m' (Ok d) p
   ruled_done R = record { by = R }
 
   -- a refusal
-  pub ruled_refused : {p : Step} {k : ℕ} {n : NodeId} → Stops m c m' d p k n.0 → Rules m c m' (ruled.Refused k d n) p
+  pub ruled_refused : {p : Step} {q : Refusal} → Stops m c m' q.record p q.number q.node.0 → Rules m c m' (Err q) p
   ruled_refused R = record { by = R }
 
 -- ── RAW as the code has it ──
 
 -- a type that is there
-pub typed_some : (o : Option ℕ) (t : TypeId) → node_type o ≡ node-type·V.Typed t → o ≡ some t.0
+pub typed_some : (o : Option ℕ) (t : TypeId) → node_type o ≡ Some t → o ≡ some t.0
 typed_some none t e = let z : ◌≡◌ {A = ℕ} 0 1 = cc in absurd (omega arith)
 typed_some (some x) t e = let z : record { 0 = x } ≡ t = cc in ap (λ (u : TypeId). some u.0) z
 
 -- one that is not
-pub untyped_none : (o : Option ℕ) → node_type o ≡ node-type·V.Untyped → o ≡ none
+pub untyped_none : (o : Option ℕ) → node_type o ≡ None → o ≡ none
 untyped_none none e = refl
 untyped_none (some x) e = let z : ◌≡◌ {A = ℕ} 0 1 = cc in absurd (omega arith)

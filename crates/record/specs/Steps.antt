@@ -1,10 +1,9 @@
 -- The steps of a typing rule, as programs. Definitions alone.
 use Rattle.std.proofs.Math.Option.{Option, none, some}
-use Rattle.std.specs.Prelude.{List, map, Bool, cond, ℕ, suc, zero, get_or, length, ltb}
+use Rattle.std.specs.Prelude.{List, map, Bool, cond, ℕ, suc, zero, get_or, length, ltb, Some}
 use Rattle.theory.specs.Rules.{Shape, Kind, inst, base, arr, ref, fn, fun, lam, Out, numbers_of, row}
 use Rattle.theory.specs.Program.{St, Prog, clip, done, draw, intern, equate, emit, mark, read, write, ◌>>=◌}
 use Rattle.type_table.specs.declared.NodeId.{NodeId}
-use Rattle.type_table.specs.declared.Origin.TheVariants.{Node}
 use Rattle.type_table.specs.Memory.{numbered}
 use Rattle.type_table.specs.Made.{origin_number}
 use Rattle.record.specs.declared.Extra.{Extra}
@@ -62,7 +61,7 @@ output = read (λ s. done s.own.output)
 
 -- the origin of a variable that a node draws
 abbrev pub drawn_by : ℕ → Option ℕ
-drawn_by n = numbered (origin_number (Node (record { 0 = n })))
+drawn_by n = numbered (origin_number (Some (record { 0 = n })))
 
 -- `new_infer_var`: a new variable's type
 unfoldable pub new_infer_var : Kind → Option ℕ → Walk ℕ

@@ -1,11 +1,11 @@
 -- The tables of a body, and the reference rules of a line by the kinds of its fields.
 -- Assumes nothing.
-use Rattle.std.specs.Prelude.{ℕ, zero, suc, ◌+◌, ◌*◌, ◌-◌, List, [], ◌∷◌, Bool, true, false, cond, not, leb, ltb, eqb, get_or, set}
+use Rattle.std.specs.Prelude.{ℕ, zero, suc, ◌+◌, ◌*◌, ◌-◌, List, [], ◌∷◌, Bool, true, false, cond, not, leb, ltb, eqb, get_or, set, None, Option, Some}
 use Rattle.forms.specs.declared.Form.{Form}
 use Rattle.forms.specs.Form.{kind_at, LowType, TypeRef, OptType, NamedType, NamedDef, OptExpr, Expr, Block, Stmt, Param, TypedParam, Body, Resolution, Segment}
 use Rattle.refs.specs.declared.Counts.{Counts}
-use Rattle.refs.specs.declared.Refs.{Refs}
-use Rattle.refs.specs.declared.Refs.TheVariants as found
+use Rattle.refs.specs.declared.Target.{Target}
+use Rattle.refs.specs.declared.Target.TheVariants as target
 
 -- the rows of types, defs, insts, binds, nodes and of `fn` begin here
 abbrev pub types_at : ℕ
@@ -101,6 +101,14 @@ a_node = 3
 
 abbrev pub a_res : ℕ
 a_res = 4
+
+-- its number, as `refers_to` has it
+abbrev pub target_number : Target → ℕ
+target_number target.Nothing = no_row
+target_number target.Type = a_type
+target_number target.Def = a_def
+target_number target.Node = a_node
+target_number target.Res = a_res
 
 -- a number stands in a list
 abbrev pub among : ℕ → List ℕ → Bool
@@ -200,9 +208,9 @@ most_fields = 65535
 unfoldable pub links_of : Counts → Form → ℕ → List ℕ → List ℕ → Linked
 links_of n f m cells rows = cond (ltb most_fields (n.fields + m)) (unlinked rows) (refs_from m n f 0 n.fields cells 0 rows)
 
-abbrev pub linking : Refs → List ℕ → Linked
-linking (found.Levels d) rows = linked d rows
-linking found.Bad rows = unlinked rows
+abbrev pub linking : Option ℕ → List ℕ → Linked
+linking (Some d) rows = linked d rows
+linking None rows = unlinked rows
 
 -- m values from a on are those from b on
 unfoldable pub same_values : ℕ → ℕ → ℕ → List ℕ → Bool

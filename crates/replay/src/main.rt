@@ -3,10 +3,8 @@
 // cell of every table and every byte of the output is 7.
 #![tactic(auto)]
 
-ghost use Rattle.std.specs.Prelude.{◌≤◌, length};
-
-use body_text::Room;
-use sample_input::{Next, Part, Sample};
+use sample_input::{Cut, Part, Sample};
+use samples::Tables;
 
 // A body on these tables and this output.
 fn run_report(
@@ -25,23 +23,22 @@ fn run_report(
     out: &mut [u8],
 ) -> bool {
     let r = flat_report::report_flat(s, rows, cells, nodes, vars, types, errors, log, memory, out);
-    samples::agree(
-        rt, name, s, e, r, rows, cells, nodes, vars, types, errors, log, memory, out,
-    )
+    let tables = Tables {
+        rows,
+        cells,
+        nodes,
+        vars,
+        types,
+        errors,
+        log,
+        memory,
+    };
+    samples::agree(rt, name, s, e, r, &tables, out)
 }
 
 // A body on tables and an output that are lent as its name says.
 fn run_tables(rt: &impl Print, name: &[u8], s: &[u8], e: &[u8]) -> bool {
-    let n = samples::lengths_of(name);
-    let a = n.rows;
-    let b = n.cells;
-    let c = n.nodes;
-    let d = n.vars;
-    let f = n.types;
-    let g = n.errors;
-    let h = n.log;
-    let i = n.memory;
-    let j = n.out;
+    let lent = samples::lengths_of(name);
     let mut rows = [samples::BEFORE; samples::ROWS];
     let mut cells = [samples::BEFORE; samples::CELLS];
     let mut nodes = [samples::BEFORE; samples::NODES];
@@ -56,66 +53,43 @@ fn run_tables(rt: &impl Print, name: &[u8], s: &[u8], e: &[u8]) -> bool {
         name,
         s,
         e,
-        &mut rows[0..a],
-        &mut cells[0..b],
-        &mut nodes[0..c],
-        &mut vars[0..d],
-        &mut types[0..f],
-        &mut errors[0..g],
-        &mut log[0..h],
-        &mut memory[0..i],
-        &mut out[0..j],
+        &mut rows[..lent.rows],
+        &mut cells[..lent.cells],
+        &mut nodes[..lent.nodes],
+        &mut vars[..lent.vars],
+        &mut types[..lent.types],
+        &mut errors[..lent.errors],
+        &mut log[..lent.log],
+        &mut memory[..lent.memory],
+        &mut out[..lent.out],
     )
-}
-
-// A sample by its name, the first n bytes of the room as its body, and its second line.
-fn run_room(rt: &impl Print, name: &[u8], room: &[u8], n: usize, e: &[u8]) -> bool {
-    if n <= room.len() {
-        return run_tables(rt, name, &room[0..n], e);
-    }
-    false
-}
-
-// A sample by its first line, whose name ends at the place k, and its second.
-fn run_text(rt: &impl Print, room: &mut Room, s: &[u8], k: usize, e: &[u8]) -> bool
-    requires { k ≤ length s.now }
-{
-    let n = body_text::expand_line(room, s, k);
-    run_room(rt, &s[0..k], room, n, e)
 }
 
 // A sample by its two lines.
 fn run_lines(rt: &impl Print, s: &[u8], e: &[u8]) -> bool {
     let mut room = [0u8; body_text::ROOM];
     let k = body_text::find(s, 0, b' ');
-    run_text(rt, &mut room, s, k, e)
+    let n = body_text::expand_line(&mut room, s, k);
+    n <= body_text::ROOM && run_tables(rt, &s[..k], &room[..n], e)
 }
 
-// The sample of the first n bytes, whose first line ends at k.
-fn run_sample(rt: &impl Print, s: &[u8], n: usize, k: usize) -> bool {
-    if s.len() < n {
-        return false;
-    }
-    if k < n {
-        return run_lines(rt, &s[0..k], &s[k + 1..n]);
-    }
-    false
+// A sample by its bytes.
+fn run_sample(rt: &impl Print, s: &[u8], cut: Cut) -> bool {
+    cut.bytes <= s.len()
+        && cut.first < cut.bytes
+        && run_lines(rt, &s[..cut.first], &s[cut.first + 1..cut.bytes])
 }
 
-// How many samples of the input agree. Nothing says that it ends, so they are counted down from a number that no run uses up.
+// How many samples of the input agree. Nothing says that it ends, so they are counted, up to a number that no run uses up.
 fn run(rt: &(impl Input + Print), part: &mut Part, sample: &mut Sample) -> u64 {
     let mut agree = 0;
-    let mut p = sample_input::start();
-    let mut left = u64::MAX;
-    while left > 0 {
-        let next = sample_input::next_sample(rt, part, sample, p);
-        let Next::Sample(c) = next else {
-            return agree;
+    let mut place = sample_input::start();
+    for _ in 0..u64::MAX {
+        let Some(cut) = sample_input::next_sample(rt, part, sample, place) else {
+            break;
         };
-        let good = run_sample(rt, sample, c.bytes, c.first);
-        agree = sample_input::counted(agree, good);
-        p = c.place;
-        left -= 1;
+        agree = sample_input::counted(agree, run_sample(rt, sample, cut));
+        place = cut.place;
     }
     agree
 }

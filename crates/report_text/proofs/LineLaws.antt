@@ -1,28 +1,23 @@
 -- What each return and turn of a function that writes a line shows, over plain variables. Assumes nothing.
 use native.Mathlib.Omega.{arith}
 use native.Mathlib.Numerals.{add-one}
-use mathlib.Core.Path.{◌≡◌, refl, sym, ap, subst, ◌∙◌}
+use mathlib.Core.Path.{◌≡◌, refl, sym, ap, ◌∙◌}
 use mathlib.Core.List.{List, [], ◌∷◌, ◌++◌, append_assoc, append-nil}
-use mathlib.Core.Option.{Option, none, some}
 use mathlib.Core.Bool.{Bool, true, false}
-use Prim.Native.Nat.{ℕ, zero, suc, ◌+◌, ◌-◌, ◌*◌, ◌≤◌, ◌<◌}
+use Prim.Native.Nat.{ℕ, ◌+◌, ◌-◌, ◌*◌, ◌≤◌, ◌<◌}
 use lib.ListN.{length, take, drop, get_or, length-drop, drop_of_length-le}
 use lib.Dec.{eqb}
 use lib.Seq.{take-suc, take_all, take-nil}
 use borrow.Author.Tests.{eq-eqb, ne_eqb}
-use Rattle.theory.specs.Rules.{bool, nil, float, double, uint, int, inst, Shape, base, var, arr, ref, fn, fun, lam, err, div}
-use Rattle.type_table.specs.Memory.{pick, cell, width_of, shape_of, kind_of}
+use Rattle.theory.specs.Rules.{bool, nil, float, double, uint, int, base, fun, err, div}
+use Rattle.type_table.specs.Memory.{pick, cell, width_of, shape_of}
 use Rattle.lex.specs.Text.{text}
-use Rattle.nodes.specs.declared.Res.TheVariants as res
-use Rattle.nodes.specs.Nodes.{res_of}
-use Rattle.record.specs.declared.Extra.TheVariants as extra
-use Rattle.record.specs.Own.{flagged, extra_of}
 use Rattle.tables.specs.Types.{inputs_from_lem}
 use Rattle.tables.specs.Read.{cells_at, made_at}
 use Rattle.output.specs.Output.{Appends, number_text}
 use Rattle.output.specs.Appending.{append_none, then, appends_as}
 use Rattle.error_lines.specs.ErrorLines.{each_text}
-use Rattle.report_text.specs.Lines.{option_text, option_at, type_text, extra_text, lambda_text}
+use Rattle.report_text.specs.Lines.{option_text, option_at, type_text, lambda_text}
 
 -- ── a number that may be absent ──
 
@@ -48,9 +43,6 @@ each_none l c x = append_none c x
 
 pub each_next : {c d e : ℕ} {x y z : List ℕ} (l : List ℕ) (i : ℕ) → i < length l → Appends (each_text (take i l)) c x d y → Appends (text "," ++ number_text (get_or l i 0)) d y e z → Appends (each_text (take (i + 1) l)) c x e z
 each_next l i lt f g = appends_as (sym (each_more (take i l) (get_or l i 0)) ∙ ap each_text (sym (take-suc l i 0 lt)) ∙ ap (λ k. each_text (take k l)) (sym (add-one i))) (then f g)
-
-pub each_all : {c d : ℕ} {x y : List ℕ} (l : List ℕ) (i : ℕ) → length l ≤ i → Appends (each_text (take i l)) c x d y → Appends (each_text l) c x d y
-each_all l i ge f = appends_as (ap each_text (take_all i l ge)) f
 
 -- a part of a table that begins past its end
 pub part_none : (t : List ℕ) (f k : ℕ) (c : ℕ) (x : List ℕ) → length t < f → Appends (each_text (cells_at t f k)) c x c x
@@ -96,11 +88,3 @@ pub made_lambda : {c d : ℕ} {x y : List ℕ} (t : List ℕ) (i h : ℕ) → h 
 unfolding lambda_text made_at shape_of each_text
 made_lambda t i h e k p =
     rw (← e, k) (appends_as (append_assoc (text "type=lambda," ++ number_text (cell t (i * 5 + 1))) (text "," ++ number_text (cell t (i * 5 + 2))) (each_text (cells_at t (inputs_from_lem + cell t (i * 5 + 3)) (cell t (i * 5 + 4))))) p)
-
--- ── EXTRA ──
-
--- what is no other tag is o
-pub extra_other : (a b : ℕ) → ((((((((Unit {0} × (a ≡ 0 → ⊥)) × (a ≡ 1 → ⊥)) × (a ≡ 2 → ⊥)) × (a ≡ 3 → ⊥)) × (a ≡ 4 → ⊥)) × (a ≡ 5 → ⊥)) × (a ≡ 7 → ⊥)) × (a ≡ 8 → ⊥)) → text "o" ≡ extra_text (extra_of a b)
-unfolding extra_of res_of
-extra_other a b n =
-    rw (ne_eqb a 0 n.0.0.0.0.0.0.0.1, ne_eqb a 7 n.0.1, ne_eqb a 8 n.1, ne_eqb a 1 n.0.0.0.0.0.0.1, ne_eqb a 2 n.0.0.0.0.0.1, ne_eqb a 3 n.0.0.0.0.1, ne_eqb a 4 n.0.0.0.1, ne_eqb a 5 n.0.0.1)

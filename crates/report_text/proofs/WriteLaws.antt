@@ -1,6 +1,7 @@
 -- What each return of a function that writes a report shows, over plain variables. Assumes nothing.
-use mathlib.Core.Path.{◌≡◌, refl, sym, ap, subst, ◌∙◌}
-use mathlib.Core.List.{List, [], ◌++◌, append-nil}
+use Rattle.std.specs.Prelude.{None, Option, Some}
+use mathlib.Core.Path.{◌≡◌, refl, sym, ap, ◌∙◌}
+use mathlib.Core.List.{List, ◌++◌, append-nil}
 use mathlib.Core.Option.{none, some}
 use mathlib.Core.Bool.{Bool, true, false, cond}
 use Prim.Native.Nat.{ℕ}
@@ -14,14 +15,12 @@ use Rattle.answers.specs.declared.Answer.TheVariants as answer
 use Rattle.answers.specs.declared.Totals.{Totals}
 use Rattle.answers.specs.Lent.{errors_used}
 use Rattle.errors.specs.Rows.{row_in}
-use Rattle.output.specs.declared.Ending.{Ending}
-use Rattle.output.specs.declared.Ending.TheVariants.{At, Full}
-use Rattle.output.specs.Output.{Appends, Finishes, Output, output, ended, zeros}
+use Rattle.output.specs.Output.{Appends, Finishes, output, ended, zeros}
 use Rattle.output.specs.Appending.{appends_as, whole}
 use Rattle.report_text.specs.Lines.{answer_line}
 use Rattle.report_text.specs.declared.Reported.{Reported}
 use Rattle.report_text.specs.declared.Reported.TheVariants.{Written, NoRoom}
-use Rattle.report_text.specs.Written.{text_of, Said, said, written}
+use Rattle.report_text.specs.Written.{text_of, said, written}
 
 module _ (nodes vars types m : List ℕ) {x y : List ℕ} {d : ℕ} where
   -- ── by the answer ──
@@ -53,24 +52,24 @@ module _ (nodes vars types m : List ℕ) {x y : List ℕ} {d : ℕ} where
 -- ── by the room ──
 
 -- the answer by the end of the text
-abbrev by_ending_lem : Answer → Ending → Reported
-by_ending_lem a (At n) = Written a n
-by_ending_lem a Full = NoRoom a
+abbrev by_ending_lem : Answer → Option ℕ → Reported
+by_ending_lem a (Some n) = Written a n
+by_ending_lem a None = NoRoom a
 
 -- the end of a text is what is answered
 ended_written : (a : Answer) (t o : List ℕ) → said (by_ending_lem a (ended t o).ending) (ended t o).bytes ≡ written a t o
 unfolding ended written
 ended_written a t o = by (ltb (length o) (length t))
   where
-    by : (b : Bool) → said (by_ending_lem a (cond b (output Full (zeros o)) (output (At (length t)) (t ++ drop (length t) o))).ending) (cond b (output Full (zeros o)) (output (At (length t)) (t ++ drop (length t) o))).bytes ≡ cond b (said (NoRoom a) (zeros o)) (said (Written a (length t)) (t ++ drop (length t) o))
+    by : (b : Bool) → said (by_ending_lem a (cond b (output None (zeros o)) (output (Some (length t)) (t ++ drop (length t) o))).ending) (cond b (output None (zeros o)) (output (Some (length t)) (t ++ drop (length t) o))).bytes ≡ cond b (said (NoRoom a) (zeros o)) (said (Written a (length t)) (t ++ drop (length t) o))
     by true = refl
     by false = refl
 
-module _ {a : Answer} {t x y z : List ℕ} {c : ℕ} {d : Ending} where
+module _ {a : Answer} {t x y z : List ℕ} {c : ℕ} {d : Option ℕ} where
   -- the text had room
-  pub write_at : (n : ℕ) → Appends t 0 x c y → Finishes c y d z → d ≡ At n → said (Written a n) z ≡ written a t x
+  pub write_at : (n : ℕ) → Appends t 0 x c y → Finishes c y d z → d ≡ Some n → said (Written a n) z ≡ written a t x
   write_at n p q e = ap (λ k. said (by_ending_lem a k) z) (sym e) ∙ ap (λ w. said (by_ending_lem a w.ending) w.bytes) (whole p q) ∙ ended_written a t x
 
   -- it had none
-  pub write_full : Appends t 0 x c y → Finishes c y d z → d ≡ Full → said (NoRoom a) z ≡ written a t x
+  pub write_full : Appends t 0 x c y → Finishes c y d z → d ≡ None → said (NoRoom a) z ≡ written a t x
   write_full p q e = ap (λ k. said (by_ending_lem a k) z) (sym e) ∙ ap (λ w. said (by_ending_lem a w.ending) w.bytes) (whole p q) ∙ ended_written a t x

@@ -1,7 +1,7 @@
 -- The lines of document 01's report, each as a list of bytes, by what the lent tables have. Definitions alone.
-use Rattle.std.specs.Prelude.{List, [], ◌∷◌, ◌++◌, ℕ, ◌+◌, ◌*◌}
+use Rattle.std.specs.Prelude.{List, ◌∷◌, ◌++◌, ℕ, ◌+◌, ◌*◌}
 use Rattle.std.proofs.Math.Option.{Option, none, some}
-use Rattle.theory.specs.Rules.{Kind, integer, floating, regular, Base, inst, bool, nil, float, double, uint, int, Shape, base, var, arr, ref, fn, fun, lam, err, div}
+use Rattle.theory.specs.Rules.{Kind, integer, floating, regular, inst, bool, nil, float, double, uint, int, Shape, base, var, arr, ref, fn, fun, lam, err, div}
 use Rattle.type_table.specs.Memory.{cell, kind_of}
 use Rattle.lex.specs.Text.{text}
 use Rattle.nodes.specs.declared.Res.{Res}

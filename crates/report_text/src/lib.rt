@@ -4,7 +4,6 @@
 ghost use Rattle.std.specs.Prelude.{◌≡◌, ◌++◌};
 ghost use Rattle.std.proofs.Math.Option.{none, some};
 ghost use Rattle.type_table.specs.Memory.{cell, kind_of};
-ghost use Rattle.body.specs.Body.{fault_number};
 ghost use Rattle.answers.specs.declared.Answer.TheVariants.{Checked};
 ghost use Rattle.lex.specs.Text.{text};
 ghost use Rattle.record.specs.Own.{extra_of};
@@ -17,8 +16,6 @@ ghost use Rattle.report_text.specs.Lines.{option_text, option_at, answer_line, t
 ghost use Rattle.report_text.specs.Written.{text_of, checked_answer, said, written};
 
 use answers::{Answer, Totals};
-use forms::Fault;
-use output::Ending;
 
 // What `report` answers.
 #[derive(Clone, Copy)]
@@ -44,9 +41,10 @@ fn put_option(out: &mut [u8], c: usize, s: &[u8], t: &[u16], i: u32) -> usize
 {
     let d = output::put_all(out, c, s);
     if refs::at(t, i as usize) == 1 {
-        return output::put_number(out, d, refs::at(t, i as usize + 1) as usize);
+        output::put_number(out, d, refs::at(t, i as usize + 1) as usize)
+    } else {
+        output::put(out, d, b'-')
     }
-    output::put(out, d, b'-')
 }
 
 // ── made types ──
@@ -56,10 +54,8 @@ fn put_each(out: &mut [u8], c: usize, t: &[u16]) -> usize
     ensures { Appends (each_text t.now) c out.old result out.new }
 {
     let mut d = c;
-    let mut i = 0;
-    while i < t.len() {
-        d = put_cell(out, d, t, i);
-        i += 1;
+    for &x in t {
+        d = output::put_field(out, d, b",", x as usize);
     }
     d
 }
@@ -70,12 +66,12 @@ fn put_part(out: &mut [u8], c: usize, t: &[u16], f: usize, k: usize) -> usize
 {
     let n = t.len();
     if n < f {
-        return c;
+        c
+    } else if n - f < k {
+        put_each(out, c, &t[f..n])
+    } else {
+        put_each(out, c, &t[f..f + k])
     }
-    if n - f < k {
-        return put_each(out, c, &t[f..n]);
-    }
-    put_each(out, c, &t[f..f + k])
 }
 
 // Node, output and inputs of a lambda, the made type of the number i.
@@ -127,10 +123,8 @@ fn put_types(out: &mut [u8], c: usize, t: &[u16], n: u16) -> usize
     ensures { Appends (type_lines t.now n) c out.old result out.new }
 {
     let mut d = output::put_line(out, c, b"types=", n as usize);
-    let mut i: u16 = 0;
-    while i < n {
+    for i in 0..n {
         d = put_type(out, d, t, i);
-        i += 1;
     }
     d
 }
@@ -138,6 +132,7 @@ fn put_types(out: &mut [u8], c: usize, t: &[u16], n: u16) -> usize
 // ── variables ──
 
 // KIND.
+#[tactic(auto, unfolding(type_table::specs::Memory::kind_of))]
 fn put_kind(out: &mut [u8], c: usize, k: u16) -> usize
     ensures { Appends (text "var=" ++ kind_text (kind_of k)) c out.old result out.new }
 {
@@ -164,10 +159,8 @@ fn put_vars(out: &mut [u8], c: usize, t: &[u16], n: u16) -> usize
     ensures { Appends (var_lines t.now n) c out.old result out.new }
 {
     let mut d = output::put_line(out, c, b"vars=", n as usize);
-    let mut v: u16 = 0;
-    while v < n {
+    for v in 0..n {
         d = put_var(out, d, t, v);
-        v += 1;
     }
     d
 }
@@ -175,6 +168,7 @@ fn put_vars(out: &mut [u8], c: usize, t: &[u16], n: u16) -> usize
 // ── nodes ──
 
 // EXTRA, by its tag and its number.
+#[tactic(auto, unfolding(record::specs::Own::extra_of, nodes::specs::Nodes::res_of))]
 fn put_extra(out: &mut [u8], c: usize, e: u16, n: usize) -> usize
     ensures { Appends (text "," ++ extra_text (extra_of e n)) c out.old result out.new }
 {
@@ -185,8 +179,7 @@ fn put_extra(out: &mut [u8], c: usize, e: u16, n: usize) -> usize
         3 => output::put_field(out, c, b",c", n),
         4 => output::put_field(out, c, b",i", n),
         5 => output::put_all(out, c, b",e"),
-        7 => output::put_field(out, c, b",", n),
-        8 => output::put_field(out, c, b",", n),
+        7 | 8 => output::put_field(out, c, b",", n),
         _ => output::put_all(out, c, b",o"),
     }
 }
@@ -208,10 +201,8 @@ fn put_nodes(out: &mut [u8], c: usize, t: &[u16], n: u16) -> usize
     ensures { Appends (node_lines t.now n) c out.old result out.new }
 {
     let mut d = c;
-    let mut i: u16 = 0;
-    while i < n {
+    for i in 0..n {
         d = put_node(out, d, t, i);
-        i += 1;
     }
     d
 }
@@ -259,18 +250,6 @@ fn put_tables(
 
 // ── by the answer ──
 
-// Document 01's number of a refusal of the reader.
-fn fault_number(f: Fault) -> usize
-    ensures { result ≡ fault_number f }
-{
-    match f {
-        Fault::Form => 3,
-        Fault::Limit => 4,
-        Fault::Reference => 5,
-        Fault::Levels => 6,
-    }
-}
-
 // The report of a body that was checked.
 fn put_checked(
     out: &mut [u8],
@@ -282,12 +261,19 @@ fn put_checked(
 ) -> usize
     ensures { Appends (text_of (Checked n) nodes.now vars.now types.now (row_in m.now n.errors)) 0 out.old result out.new }
 {
-    let k = n.declared.nodes;
-    let t = n.types;
-    let v = n.vars;
-    let e = n.errors;
     let c = put_answer(out, 0);
-    put_tables(out, c, t, v, k, e, nodes, vars, types, m)
+    put_tables(
+        out,
+        c,
+        n.types,
+        n.vars,
+        n.declared.nodes,
+        n.errors,
+        nodes,
+        vars,
+        types,
+        m,
+    )
 }
 
 // The report of an answer and its tables, the errors from the memory of the walk.
@@ -305,7 +291,7 @@ fn put_report(
         Answer::Checked(n) => put_checked(out, n, nodes, vars, types, m),
         Answer::TooLong => put_answer(out, 1),
         Answer::ShortTable => put_answer(out, 2),
-        Answer::Refused(f, l) => put_refusal(out, fault_number(f), l),
+        Answer::Refused(f, l) => put_refusal(out, body::fault_number(f), l),
         Answer::Declined(k, p) => put_refusal(out, k as usize, p.0 as usize),
     }
 }
@@ -324,8 +310,8 @@ pub fn write_report(
 {
     let c = put_report(out, a, nodes, vars, types, m);
     match output::finish(out, c) {
-        Ending::At(n) => Reported::Written(a, n),
-        Ending::Full => Reported::NoRoom(a),
+        Some(n) => Reported::Written(a, n),
+        None => Reported::NoRoom(a),
     }
 }
 
@@ -334,7 +320,7 @@ pub fn answer_of(r: Reported) -> Answer
     ensures { result ≡ checked_answer r }
 {
     match r {
-        Reported::Written(a, n) => a,
+        Reported::Written(a, _) => a,
         Reported::NoRoom(a) => a,
     }
 }

@@ -1,4 +1,7 @@
 -- What each return of the functions around the walk shows: the program of a step, from those of its parts.
+use Rattle.std.specs.Prelude.{Err, None, Ok, Option as Option·R, Result, Some}
+use Rattle.std.specs.Result.{IsErr, IsErrAnd}
+use Rattle.std.specs.Option.{unwrap_or}
 use mathlib.Core.Path.{◌≡◌, refl, sym, ap, ◌∙◌}
 use mathlib.Core.List.{List}
 use mathlib.Core.Option.{Option, none, some}
@@ -8,7 +11,7 @@ use native.Mathlib.Numerals.{add-one}
 use lib.ListN.{get_or, length}
 use lib.Dec.{eqb}
 use borrow.Author.Tests.{eqb-true, eqb-false}
-use Rattle.theory.specs.Rules.{integer, as_var, row, kind}
+use Rattle.theory.specs.Rules.{as_var, row, kind}
 use Rattle.theory.specs.Program.{run}
 use Rattle.theory.specs.Start.{start}
 use Rattle.type_table.specs.declared.Counts.{Counts}
@@ -17,8 +20,6 @@ use Rattle.type_table.specs.declared.NodeId.{NodeId}
 use Rattle.type_table.specs.declared.VarId.{VarId}
 use Rattle.type_table.specs.declared.Kind.{Kind as KindV}
 use Rattle.type_table.specs.declared.Kind.TheVariants as kind·V
-use Rattle.type_table.specs.declared.Origin.{Origin}
-use Rattle.type_table.specs.declared.Bound.TheVariants.{Open}
 use Rattle.type_table.specs.Memory.{mem_of, pick, head_at, number_at, rows_of, kinds_of, origins_of, binds_of, binding_at, kind_of}
 use Rattle.type_table.specs.Made.{kind_number}
 use Rattle.type_table.specs.View.{kind_in, origin_in, bound_code, bound_in, onward_in, end_in}
@@ -27,18 +28,12 @@ use Rattle.type_table.specs.Tables.{length-rows, bound_at}
 use Rattle.type_table.specs.Reads.{origin_meant, kind_read, origin_read}
 use Rattle.type_table.specs.Sound.{fixed_types, state_of}
 use Rattle.refs.specs.declared.Counts.{Counts as CountsB}
-use Rattle.nodes.specs.declared.MaybeType.{MaybeType}
-use Rattle.nodes.specs.declared.MaybeType.TheVariants as type
 use Rattle.nodes.specs.declared.Items.{Items}
 use Rattle.nodes.specs.declared.TypeRow.{TypeRow}
 use Rattle.nodes.specs.declared.Function.{Function}
 use Rattle.nodes.specs.Nodes.{Body, item, declared_at, type_row_at, fn_line}
 use Rattle.nodes.specs.Shapes.{not_var, row_not_var, row_not_arr, row_head, row_var, row_arr}
 use Rattle.record.specs.declared.Record.{Record}
-use Rattle.record.specs.declared.NodeType.{NodeType}
-use Rattle.record.specs.declared.NodeType.TheVariants as node-type·V
-use Rattle.record.specs.declared.Ruled.{Ruled}
-use Rattle.record.specs.declared.Ruled.TheVariants as ruled
 use Rattle.record.specs.declared.Span.TheVariants as span
 use Rattle.record.specs.Own.{log_at, raws_of, blank, node_type}
 use Rattle.record.specs.Steps.{State, array_of, error, equation, set_node_type, set_final, for_each}
@@ -50,6 +45,7 @@ use Rattle.rules.specs.Rules.{err_type, at, own_error, mismatch, equate_on}
 use Rattle.walk.specs.Walk.{typeck_expr}
 use Rattle.resolve.specs.Body.{first_state, BodyTyped}
 use Rattle.resolve.specs.Resolve.{type_of_line, declare_type, bound_of, end_by, end_from, end_of, drawn_as, or_zero, variable_type, resolve_variable, resolve_element, resolve_type_variable, resolve_node, declare_types, param_type_lem, param, params, result, typeck, resolve_nodes, body_with, type_body}
+use Rattle.record.specs.declared.Refusal.{Refusal}
 
 -- ── the end of a row's bindings ──
 
@@ -59,7 +55,7 @@ module _ (m : List ℕ) (c : Counts) where
   unfolding onward_in bound_in
   onward_is x = by (eqb (head_at m c.types x) 12) refl
     where
-      by : (b : Bool) → eqb (head_at m c.types x) 12 ≡ b → pick b (bound_code (binding_at m c.vars (number_at m c.types x))) Open ≡ bound_code (bound_of (binds_of m c.vars) (as_var (row (rows_of m c.types) x)))
+      by : (b : Bool) → eqb (head_at m c.types x) 12 ≡ b → pick b (bound_code (binding_at m c.vars (number_at m c.types x))) None ≡ bound_code (bound_of (binds_of m c.vars) (as_var (row (rows_of m c.types) x)))
       by true e = rw (row_var m c.types x (eqb-true (head_at m c.types x) 12 e), bound_at m c.vars (number_at m c.types x))
       by false e = rw (not_var (row (rows_of m c.types) x) (λ p. eqb-false (head_at m c.types x) 12 e (sym (row_head m c.types x) ∙ p)))
 
@@ -157,14 +153,14 @@ module _ {m : List ℕ} {c : Record} (x y h : ℕ) (end : y ≡ end_in m c.count
 
 -- ── nodes, type lines, the function ──
 
-module _ {m : List ℕ} {c : Record} (n : ℕ) (v : NodeType) (is : v ≡ node_type (get_or (raws_of m) n none)) where
+module _ {m : List ℕ} {c : Record} (n : ℕ) (v : Option·R TypeId) (is : v ≡ node_type (get_or (raws_of m) n none)) where
   -- a node that has no type
-  pub node_untyped : v ≡ node-type·V.Untyped → Runs m c m c (resolve_node n) tt
+  pub node_untyped : v ≡ None → Runs m c m c (resolve_node n) tt
   unfolding resolve_node
   node_untyped h = then _ (runs_node_type n) (rw (untyped_none (get_or (raws_of m) n none) (sym is ∙ h)) runs_done)
 
   -- one that has
-  pub node_typed : {m₁ m' : List ℕ} {d : Record} (x : TypeId) (y : ℕ) → v ≡ node-type·V.Typed x → Runs m c m₁ d (resolve_type_variable x.0) y → Runs m₁ d m' d (set_final n y) tt → Runs m c m' d (resolve_node n) tt
+  pub node_typed : {m₁ m' : List ℕ} {d : Record} (x : TypeId) (y : ℕ) → v ≡ Some x → Runs m c m₁ d (resolve_type_variable x.0) y → Runs m₁ d m' d (set_final n y) tt → Runs m c m' d (resolve_node n) tt
   unfolding resolve_node
   node_typed x y h R F = then _ (runs_node_type n) (rw (typed_some (get_or (raws_of m) n none) x (sym is ∙ h)) (then _ R F))
 
@@ -174,11 +170,11 @@ unfolding declare_type
 line_declared rows cells i t v k h e R = rw (← h, e) (then _ R runs_done)
 
 -- P of `fn` with its type
-pub param_typed : {m m' : List ℕ} {c : Record} (n : ℕ) (v w : MaybeType) (x : TypeId) → v ≡ w → v ≡ type.Of x → Runs m c m' c (set_node_type n x.0) tt → Runs m c m' c (param_type_lem n w) tt
+pub param_typed : {m m' : List ℕ} {c : Record} (n : ℕ) (v w : Option·R TypeId) (x : TypeId) → v ≡ w → v ≡ Some x → Runs m c m' c (set_node_type n x.0) tt → Runs m c m' c (param_type_lem n w) tt
 param_typed n v w x h e R = rw (← h, e) R
 
 -- P of `fn` without one
-pub param_untyped : {m : List ℕ} {c : Record} (n : ℕ) (v w : MaybeType) → v ≡ w → v ≡ type.Absent → Runs m c m c (param_type_lem n w) tt
+pub param_untyped : {m : List ℕ} {c : Record} (n : ℕ) (v w : Option·R TypeId) → v ≡ w → v ≡ None → Runs m c m c (param_type_lem n w) tt
 param_untyped n v w h e = rw (← h, e) runs_done
 
 -- the equation of declared and actual result: met or not
@@ -192,7 +188,7 @@ unfolding result equate_on
 result_off n y k R = then_stops _ runs_output (stops _ R)
 
 -- BODY, and its result
-pub typeck_on : {m m₁ m' : List ℕ} {c c₁ : Record} (b : Body) (n y : ℕ) {z : Ruled} → Runs m c m₁ c₁ (typeck_expr b 64 n) y → Rules m₁ c₁ m' z (result n y) → Rules m c m' z (typeck b n)
+pub typeck_on : {m m₁ m' : List ℕ} {c c₁ : Record} (b : Body) (n y : ℕ) {z : Result Record Refusal} → Runs m c m₁ c₁ (typeck_expr b 64 n) y → Rules m₁ c₁ m' z (result n y) → Rules m c m' z (typeck b n)
 unfolding typeck
 typeck_on b n y T R = after_rules _ T R
 
@@ -264,25 +260,30 @@ module _ (rows cells : List ℕ) (t : Items) where
 -- ── origins ──
 
 -- the node that drew a variable
-pub origin_is : (m : List ℕ) (c : Counts) (v : VarId) (o k : Origin) (n : ℕ) → o ≡ origin_in m c v → o ≡ k → n ≡ or_zero (origin_meant k) → n ≡ or_zero (get_or (origins_of m c.vars) v.0 none)
-origin_is m c v o k n h e q = q ∙ ap (λ (o : Origin). or_zero (origin_meant o)) (sym e ∙ h) ∙ ap or_zero (origin_read m c v)
+pub origin_is : (m : List ℕ) (c : Counts) (v : VarId) (o : Option·R NodeId) (n : NodeId) → o ≡ origin_in m c v → n ≡ unwrap_or o (record { 0 = 0 }) → n.0 ≡ or_zero (get_or (origins_of m c.vars) v.0 none)
+origin_is m c v o n h e = ap (λ (x : NodeId). x.0) e ∙ by o ∙ ap (λ (o : Option·R NodeId). or_zero (origin_meant o)) h ∙ ap or_zero (origin_read m c v)
+  where
+    by : (o : Option·R NodeId) → (unwrap_or o (record { 0 = 0 })).0 ≡ or_zero (origin_meant o)
+    by None = refl
+    by (Some x) = refl
 
 -- ── a body ──
 
-module _ (n : CountsB) (rows cells : List ℕ) (f : Function) (line : f ≡ fn_line rows cells) (m : List ℕ) {m₀ m₁ m₂ m₃ : List ℕ} {c₀ c₁ c₃ : Record}
+module _ (n : CountsB) (rows cells : List ℕ) (f : Function) (line : f ≡ fn_line rows cells) (m : List ℕ) {m₀ m₁ m₂ m₃ : List ℕ} {c₀ c₁ : Record}
     (S : log_at ≤ length m → Encodes m₀ c₀ (start fixed_types (blank f.output.0))) (D : Runs m₀ c₀ m₁ c₁ (declare_types rows cells n.types) tt) (P : Runs m₁ c₁ m₂ c₁ (params rows cells f.params) tt) where
   -- a body that is typed
-  pub body_done : {m' : List ℕ} {c' : Record} → Runs m₂ c₁ m₃ c₃ (typeck (body_with n rows cells) f.body.0) tt → Runs m₃ c₃ m' c' (resolve_nodes n.nodes) tt → BodyTyped m m' (ruled.Done c') n rows cells
+  pub body_done : {m' : List ℕ} {c₃ c' : Record} → Runs m₂ c₁ m₃ c₃ (typeck (body_with n rows cells) f.body.0) tt → Runs m₃ c₃ m' c' (resolve_nodes n.nodes) tt → BodyTyped m m' (Ok c') n rows cells
   body_done T R = record {
     by = λ large fits.
         let s : Encodes m₀ c₀ (first_state rows cells) = rw line at (S large) in
         (body_on n rows cells D (rw line at P) (rw line at T) R).ran (first_state rows cells) s fits;
   }
 
-  -- a body that is refused
-  pub body_refused : (k : ℕ) (p : NodeId) → Stops m₂ c₁ m₃ c₃ (typeck (body_with n rows cells) f.body.0) k p.0 → BodyTyped m m₃ (ruled.Refused k c₃ p) n rows cells
-  body_refused k p T = record {
+  -- a body that is refused: r is what a `?` returns of the refusal q
+  pub body_refused : {q : Refusal} (r : Result Record Refusal) → IsErr r × IsErrAnd r (λ y. y ≡ q) → Stops m₂ c₁ m₃ q.record (typeck (body_with n rows cells) f.body.0) q.number q.node.0 → BodyTyped m m₃ r n rows cells
+  body_refused (Ok d) h T = absurd h.1
+  body_refused {q} (Err y) h T = rw h.1 (record {
     by = λ large fits.
         let s : Encodes m₀ c₀ (first_state rows cells) = rw line at (S large) in
-        (body_off n rows cells D (rw line at P) k p.0 (rw line at T)).stopped (first_state rows cells) s fits;
-  }
+        (body_off n rows cells D (rw line at P) q.number q.node.0 (rw line at T)).stopped (first_state rows cells) s fits;
+  })

@@ -1,11 +1,9 @@
 -- A whole body as a program: its declared types, the walk, the equation of declared and actual result, the final types. Definitions alone.
-use Rattle.std.specs.Prelude.{List, ℕ, suc, length, get_or}
+use Rattle.std.specs.Prelude.{List, ℕ, suc, length, get_or, None, Option as Option·R, Some}
 use Rattle.std.proofs.Math.Option.{Option, none, some}
 use Rattle.theory.specs.Rules.{Shape, Kind, regular, integer, floating, as_var, row, kind, bound, iter}
 use Rattle.theory.specs.Program.{done, read, ◌>>=◌}
 use Rattle.refs.specs.declared.Counts.{Counts}
-use Rattle.nodes.specs.declared.MaybeType.{MaybeType}
-use Rattle.nodes.specs.declared.MaybeType.TheVariants as type
 use Rattle.nodes.specs.declared.Items.{Items}
 use Rattle.nodes.specs.declared.TypeRow.{TypeRow}
 use Rattle.nodes.specs.declared.TypeRow.TheVariants as line
@@ -15,6 +13,7 @@ use Rattle.record.specs.declared.Span.TheVariants as span
 use Rattle.record.specs.Steps.{Walk, Step, set_node_type, set_final, node_type_lem, shape_of_lem, output, array_of, fn_def_lem, instance, make_function, error, for_each}
 use Rattle.rules.specs.Rules.{err_type, at, own_error, mismatch, equate_on}
 use Rattle.walk.specs.Walk.{typeck_expr}
+use Rattle.type_table.specs.declared.TypeId.{TypeId}
 
 -- ── declared types ──
 
@@ -26,9 +25,9 @@ type_of_line cells (line.Inst k) = instance k.0
 type_of_line cells (line.Fn d) = fn_def_lem d.0
 
 -- the declared type of P of `fn`
-abbrev pub param_type_lem : ℕ → MaybeType → Step
-param_type_lem n (type.Of t) = set_node_type n t.0
-param_type_lem n type.Absent = done tt
+abbrev pub param_type_lem : ℕ → Option·R TypeId → Step
+param_type_lem n (Some t) = set_node_type n t.0
+param_type_lem n None = done tt
 
 module _ (rows cells : List ℕ) where
   -- the type line i

@@ -1,22 +1,19 @@
 -- What each return of a rule shows: the program of the rule, from those of its parts.
+use Rattle.std.specs.Prelude.{None, Option, Result, Some}
 use mathlib.Core.Path.{◌≡◌, refl, sym, ◌∙◌}
 use mathlib.Core.List.{List}
 use mathlib.Core.Option.{none, some}
 use mathlib.Core.Bool.{Bool, true, false}
+use mathlib.Core.Logic.{◌⊎◌, inl, inr}
 use Prim.Native.Nat.{ℕ, ◌+◌, ◌-◌, ◌<◌, ◌≤◌}
 use lib.ListN.{length, get_or}
 use borrow.Author.Tests.{eq-eqb, ne_eqb, lt-ltb, le-ltb, le-leb, lt-leb}
 use Rattle.theory.specs.Rules.{Base, bool, nil, float, double, uint, int, inst, Shape, base, var, arr, ref, fn, fun, lam, err, div, base_head, row, head, instance_head, param_head, fn_def_head, error_head, lambda_head, ref_head, regular}
-use Rattle.theory.specs.Program.{done}
 use Rattle.type_table.specs.declared.TypeId.{TypeId}
 use Rattle.type_table.specs.declared.NodeId.{NodeId}
 use Rattle.type_table.specs.declared.DefId.{DefId}
 use Rattle.type_table.specs.declared.InstId.{InstId}
 use Rattle.type_table.specs.Memory.{head_at, number_at, output_at, rows_of}
-use Rattle.nodes.specs.declared.MaybeType.{MaybeType}
-use Rattle.nodes.specs.declared.MaybeType.TheVariants as type
-use Rattle.nodes.specs.declared.MaybeDef.{MaybeDef}
-use Rattle.nodes.specs.declared.MaybeDef.TheVariants as def
 use Rattle.nodes.specs.declared.Callee.{Callee}
 use Rattle.nodes.specs.declared.Callee.TheVariants as callee
 use Rattle.nodes.specs.declared.Items.{Items}
@@ -28,20 +25,19 @@ use Rattle.nodes.specs.declared.UnOp.TheVariants as un
 use Rattle.nodes.specs.Nodes.{Body, item, declared_at, items_of, output_of, nth, inputs_of, method, field_type, is_partly_failed, segment_name, segment_res}
 use Rattle.nodes.specs.Shapes.{not_var, not_arr, head_not, row_head, row_inst, row_fun, row_fn, row_arr, row_err, row_var, row_lam, row_ref}
 use Rattle.record.specs.declared.Record.{Record}
-use Rattle.record.specs.declared.NodeType.{NodeType}
-use Rattle.record.specs.declared.NodeType.TheVariants as node-type·V
-use Rattle.record.specs.declared.Typed.{Typed}
-use Rattle.record.specs.declared.Ruled.{Ruled}
 use Rattle.record.specs.declared.Extra.TheVariants as extra
+use Rattle.record.specs.declared.Equated.{Equated}
+use Rattle.record.specs.declared.Equated.TheVariants as equated
 use Rattle.record.specs.declared.Span.{Span}
 use Rattle.record.specs.declared.TypingError.{TypingError}
 use Rattle.record.specs.declared.ErrorKind.TheVariants as error·K
 use Rattle.record.specs.Own.{raws_of, node_type}
-use Rattle.record.specs.Steps.{fn_def_lem, instance, ref_to_lem, make_lambda, mark_var, error, equation, set_extra, set_node_type, new_infer_var, array_of, drawn_by, for_each}
-use Rattle.record.specs.Encodes.{Runs, Stops, Types, Rules}
-use Rattle.record.specs.Runs.{runs_done, stops_refuse, then, then_stops, stops, runs_shape_of, runs_types, runs_output, runs_node_type, after, after_rules, typed_some, untyped_none}
+use Rattle.record.specs.Steps.{Walk, fn_def_lem, instance, ref_to_lem, make_lambda, mark_var, error, equation, set_extra, set_node_type, new_infer_var, array_of, drawn_by, for_each}
+use Rattle.record.specs.Encodes.{Runs, Stops, Types, Rules, Equates}
+use Rattle.record.specs.Runs.{runs_done, stops_refuse, then, then_stops, stops, runs_shape_of, runs_types, runs_output, runs_node_type, after, after_rules, equation_met, equation_failed, typed_some, untyped_none}
 use Rattle.record.specs.Loops.{Onto, onto_start, onto_next, onto_end}
 use Rattle.rules.specs.Rules.{lambda_param_at, lambda_params, nil_type, bool_type, u64_type, assign, op_assign, branches, index, element, err_type, diverges_type, at, own_error, mismatch, between, equate_for, equate_on, bin_type, bin_op_lem, no_unary_op, as_ref, negation, logical_not, un_op_lem, as_inst_base, as_inst, field_of, no_instance, list_of, empty_list, element_of, condition, returned, local_type, let_without_init, let_with_init, not_called, field, called, callee_of, amounts_of, amounts, argument, sought, method_of, lambda_param, lambda_output, lambda, type_res, whole_path, path_found, path_of, inst_path, failed_path, path}
+use Rattle.record.specs.declared.Refusal.{Refusal}
 
 -- ── equations ──
 
@@ -84,7 +80,7 @@ module _ {m m' : List ℕ} {c d : Record} (n l r x y : ℕ) (o : BinOp) (e : Typ
   unfolding bin_op_lem
   bin_refused k R = rw (← is) (stops _ R)
 
-module _ {m m' : List ℕ} {c : Record} {z : Typed} (n x y : ℕ) (e : TypingError) where
+module _ {m m' : List ℕ} {c : Record} {z : Result (Record × TypeId) Refusal} (n x y : ℕ) (e : TypingError) where
   -- an assignment
   pub assign_is : (v w : ℕ) → e ≡ between error·K.TypeMismatch v w x y → Types m c m' z (equate_for n x y e nil_type) → Types m c m' z (assign n v w x y)
   unfolding assign
@@ -101,12 +97,12 @@ module _ {m m' : List ℕ} {c : Record} {z : Typed} (n x y : ℕ) (e : TypingErr
   branches_is w h R = rw (← h) R
 
 -- an index
-pub index_is : {m m' : List ℕ} {c : Record} {z : Typed} (n t y : ℕ) (e : TypingError) → e ≡ mismatch error·K.TypeMismatch (at n) u64_type y 0 → Types m c m' z (equate_for n u64_type y e t) → Types m c m' z (index n t y)
+pub index_is : {m m' : List ℕ} {c : Record} {z : Result (Record × TypeId) Refusal} (n t y : ℕ) (e : TypingError) → e ≡ mismatch error·K.TypeMismatch (at n) u64_type y 0 → Types m c m' z (equate_for n u64_type y e t) → Types m c m' z (index n t y)
 unfolding index
 index_is n t y e h R = rw (← h) R
 
 -- a later element of a list
-pub element_is : {m m' : List ℕ} {c : Record} {z : Ruled} (n i x y : ℕ) (e : TypingError) → e ≡ mismatch error·K.TypeMismatch (at i) x y 0 → Rules m c m' z (equate_on n x y e) → Rules m c m' z (element n i x y)
+pub element_is : {m m' : List ℕ} {c : Record} {z : Result Record Refusal} (n i x y : ℕ) (e : TypingError) → e ≡ mismatch error·K.TypeMismatch (at i) x y 0 → Rules m c m' z (equate_on n x y e) → Rules m c m' z (element n i x y)
 unfolding element
 element_is n i x y e h R = rw (← h) R
 
@@ -184,7 +180,7 @@ module _ {m : List ℕ} {c : Record} (e x h : ℕ) (is : h ≡ head_at m c.count
 
   module _ {m' : List ℕ} where
     -- d of anything else
-    pub deref_other : {r : Typed} → (h ≡ 14 → ⊥) → Types m c m' r (no_unary_op e x) → Types m c m' r (un_op_lem un.Deref e x)
+    pub deref_other : {r : Result (Record × TypeId) Refusal} → (h ≡ 14 → ⊥) → Types m c m' r (no_unary_op e x) → Types m c m' r (un_op_lem un.Deref e x)
     unfolding un_op_lem
     deref_other n R = after _ (runs_shape_of x) (rw (not_ref (row (rows_of m c.counts.types) x) (head_not m c.counts.types x h is 14 n)) R)
 
@@ -194,30 +190,30 @@ module _ {m : List ℕ} {c : Record} (e x h : ℕ) (is : h ≡ head_at m c.count
     negate_variable v t n R = then _ (runs_shape_of x) (rw (row_var m c.counts.types x (sym is ∙ t), ← n) (then _ R runs_done))
 
     -- n of anything else
-    pub negate_other : {r : Typed} → (h ≡ 2 → ⊥) → (h ≡ 12 → ⊥) → Types m c m' r (no_unary_op e x) → Types m c m' r (un_op_lem un.Negation e x)
+    pub negate_other : {r : Result (Record × TypeId) Refusal} → (h ≡ 2 → ⊥) → (h ≡ 12 → ⊥) → Types m c m' r (no_unary_op e x) → Types m c m' r (un_op_lem un.Negation e x)
     unfolding un_op_lem negation
     negate_other n k R =
         let s = row (rows_of m c.counts.types) x in
         after _ (runs_shape_of x) (rw (ne_eqb (head s) 2 (head_not m c.counts.types x h is 2 n), not_var s (head_not m c.counts.types x h is 12 k)) R)
 
     -- t of anything else
-    pub not_other : {r : Typed} → 2 < h → Types m c m' r (no_unary_op e x) → Types m c m' r (un_op_lem un.Not e x)
+    pub not_other : {r : Result (Record × TypeId) Refusal} → 2 < h → Types m c m' r (no_unary_op e x) → Types m c m' r (un_op_lem un.Not e x)
     unfolding un_op_lem logical_not
     not_other l R = after _ (runs_shape_of x) (rw (row_head m c.counts.types x, ← is, lt-leb h 2 l) R)
 
 -- ── fields, lists, indices ──
 
 -- a field that is there
-pub field-there : {m : List ℕ} {c : Record} (e x name : ℕ) (f : MaybeType) (t : TypeId) → f ≡ type.Of t → Runs m c m c (field_of e x name f) t.0
+pub field-there : {m : List ℕ} {c : Record} (e x name : ℕ) (f : Option TypeId) (t : TypeId) → f ≡ Some t → Runs m c m c (field_of e x name f) t.0
 field-there e x name f t h = rw h runs_done
 
 module _ {m m' : List ℕ} {c d : Record} where
   -- a field that is not
-  pub field_absent : (e x name : ℕ) (f : MaybeType) → f ≡ type.Absent → Runs m c m' d (error (own_error error·K.NoField (at e) x name)) tt → Runs m c m' d (field_of e x name f) err_type
+  pub field_absent : (e x name : ℕ) (f : Option TypeId) → f ≡ None → Runs m c m' d (error (own_error error·K.NoField (at e) x name)) tt → Runs m c m' d (field_of e x name f) err_type
   field_absent e x name f h R = rw h (then _ R runs_done)
 
 -- an empty list
-pub empty-is : {m m₁ m' : List ℕ} {c c₁ : Record} (n v : ℕ) {r : Typed} → Runs m c m₁ c₁ (new_infer_var regular (drawn_by n)) v → Types m₁ c₁ m' r (list_of v) → Types m c m' r (empty_list n)
+pub empty-is : {m m₁ m' : List ℕ} {c c₁ : Record} (n v : ℕ) {r : Result (Record × TypeId) Refusal} → Runs m c m₁ c₁ (new_infer_var regular (drawn_by n)) v → Types m₁ c₁ m' r (list_of v) → Types m c m' r (empty_list n)
 unfolding empty_list list_of
 empty-is n v D L = after _ D L
 
@@ -229,7 +225,7 @@ module _ (rows cells : List ℕ) {m : List ℕ} {c : Record} (e x name h : ℕ) 
 
   module _ {m' : List ℕ} where
     -- a field of an instance
-    pub field_inst : (k : ℕ) (f : MaybeType) {r : Typed} → h ≡ 5 → k ≡ number_at m c.counts.types x → f ≡ field_type rows cells k name → Types m c m' r (field_of e x name f) → Types m c m' r (field rows cells e x name)
+    pub field_inst : (k : ℕ) (f : Option TypeId) {r : Result (Record × TypeId) Refusal} → h ≡ 5 → k ≡ number_at m c.counts.types x → f ≡ field_type rows cells k name → Types m c m' r (field_of e x name f) → Types m c m' r (field rows cells e x name)
     unfolding field
     field_inst k f t n g R = after _ (runs_shape_of x) (rw (row_inst m c.counts.types x (sym is ∙ t), ← n, ← g) R)
 
@@ -264,7 +260,7 @@ unfolding condition
 condition_other e x h R = rw (ne_eqb x 1 h) R
 
 -- a return against the output of the function
-pub returned_is : {m m' : List ℕ} {c : Record} (n p y : ℕ) (e : TypingError) {r : Typed} → e ≡ mismatch error·K.TypeMismatch (at p) c.output.0 y 0 → Types m c m' r (equate_for n c.output.0 y e diverges_type) → Types m c m' r (returned n p y)
+pub returned_is : {m m' : List ℕ} {c : Record} (n p y : ℕ) (e : TypingError) {r : Result (Record × TypeId) Refusal} → e ≡ mismatch error·K.TypeMismatch (at p) c.output.0 y 0 → Types m c m' r (equate_for n c.output.0 y e diverges_type) → Types m c m' r (returned n p y)
 unfolding returned
 returned_is n p y e h R = after _ runs_output (rw (← h) R)
 
@@ -275,24 +271,24 @@ module _ {m m₁ m' : List ℕ} {c : Record} where
   local_is n x t X T = then _ X T
 
   -- a let with a declared type and no init
-  pub let_declared_type : (n : ℕ) (t : MaybeType) (x : TypeId) → t ≡ type.Of x → Runs m c m₁ c (set_extra n (extra.Local x)) tt → Runs m₁ c m' c (set_node_type n x.0) tt → Runs m c m' c (let_without_init n t) tt
+  pub let_declared_type : (n : ℕ) (t : Option TypeId) (x : TypeId) → t ≡ Some x → Runs m c m₁ c (set_extra n (extra.Local x)) tt → Runs m₁ c m' c (set_node_type n x.0) tt → Runs m c m' c (let_without_init n t) tt
   let_declared_type n t x h X T = rw h (local_is n x x X T)
 
   -- a let without type and init
-  pub let_drawn : {d : Record} (n v : ℕ) (t : MaybeType) → t ≡ type.Absent → Runs m c m₁ d (new_infer_var regular (drawn_by n)) v → Runs m₁ d m' d (set_node_type n v) tt → Runs m c m' d (let_without_init n t) tt
+  pub let_drawn : {d : Record} (n v : ℕ) (t : Option TypeId) → t ≡ None → Runs m c m₁ d (new_infer_var regular (drawn_by n)) v → Runs m₁ d m' d (set_node_type n v) tt → Runs m c m' d (let_without_init n t) tt
   let_drawn n v t h D T = rw h (then _ D T)
 
   -- a let with an init and no type
-  pub let_init : (n : ℕ) (t : MaybeType) (y : TypeId) → t ≡ type.Absent → Runs m c m₁ c (set_extra n (extra.Local y)) tt → Runs m₁ c m' c (set_node_type n y.0) tt → Runs m c m' c (let_with_init n t y.0) tt
+  pub let_init : (n : ℕ) (t : Option TypeId) (y : TypeId) → t ≡ None → Runs m c m₁ c (set_extra n (extra.Local y)) tt → Runs m₁ c m' c (set_node_type n y.0) tt → Runs m c m' c (let_with_init n t y.0) tt
   let_init n t y h X T = rw h (local_is n y y X T)
 
 module _ {m m₁ m' : List ℕ} {c d : Record} (n : ℕ) (x y : TypeId) (e : TypingError) (is : e ≡ mismatch error·K.TypeMismatch (at n) x.0 y.0 0) where
   -- a let with both: its equation was met, or it failed
-  pub let_both : {m₂ : List ℕ} {q : Bool} → Runs m c m₁ d (equation n x.0 y.0 e) q → Runs m₁ d m₂ d (set_extra n (extra.Local y)) tt → Runs m₂ d m' d (set_node_type n x.0) tt → Runs m c m' d (let_with_init n (type.Of x) y.0) tt
+  pub let_both : {m₂ : List ℕ} {q : Bool} → Runs m c m₁ d (equation n x.0 y.0 e) q → Runs m₁ d m₂ d (set_extra n (extra.Local y)) tt → Runs m₂ d m' d (set_node_type n x.0) tt → Runs m c m' d (let_with_init n (Some x) y.0) tt
   let_both E X T = rw (← is) (then _ E (local_is n y x X T))
 
 -- a let with both whose equation is refused
-pub let_refused : {m m' : List ℕ} {c d : Record} (n k : ℕ) (x y : TypeId) (e : TypingError) → e ≡ mismatch error·K.TypeMismatch (at n) x.0 y.0 0 → Stops m c m' d (equation n x.0 y.0 e) k n → Stops m c m' d (let_with_init n (type.Of x) y.0) k n
+pub let_refused : {m m' : List ℕ} {c d : Record} (n k : ℕ) (x y : TypeId) (e : TypingError) → e ≡ mismatch error·K.TypeMismatch (at n) x.0 y.0 0 → Stops m c m' d (equation n x.0 y.0 e) k n → Stops m c m' d (let_with_init n (Some x) y.0) k n
 let_refused n k x y e is E = rw (← is) (stops _ E)
 
 -- ── calls ──
@@ -304,14 +300,19 @@ module _ (rows cells : List ℕ) {m : List ℕ} {c : Record} (n x h : ℕ) (is :
   callee_def d o t e f = then _ (runs_shape_of x) (rw (row_fn m c.counts.types x (sym is ∙ t), ← e, f) runs_done)
 
   -- a lambda
-  pub callee_lambda : (o : ℕ) → h ≡ 13 → o ≡ output_at m c.counts.types x → Runs m c m c (callee_of rows cells n x) (some (callee.Type (record { 0 = x }), o))
+  callee_lambda : (o : ℕ) → h ≡ 13 → o ≡ output_at m c.counts.types x → Runs m c m c (callee_of rows cells n x) (some (callee.Type (record { 0 = x }), o))
   unfolding callee_of
   callee_lambda o t e = then _ (runs_shape_of x) (rw (row_lam m c.counts.types x (sym is ∙ t), e) runs_done)
 
   -- a function type
-  pub callee_function : (o : ℕ) → h ≡ 6 → o ≡ output_at m c.counts.types x → Runs m c m c (callee_of rows cells n x) (some (callee.Type (record { 0 = x }), o))
+  callee_function : (o : ℕ) → h ≡ 6 → o ≡ output_at m c.counts.types x → Runs m c m c (callee_of rows cells n x) (some (callee.Type (record { 0 = x }), o))
   unfolding callee_of
   callee_function o t e = then _ (runs_shape_of x) (rw (row_fun m c.counts.types x (sym is ∙ t), e) runs_done)
+
+  -- either of them
+  pub callee_typed : (o : ℕ) → (h ≡ 6) ⊎ (h ≡ 13) → o ≡ output_at m c.counts.types x → Runs m c m c (callee_of rows cells n x) (some (callee.Type (record { 0 = x }), o))
+  callee_typed o (inl t) e = callee_function o t e
+  callee_typed o (inr t) e = callee_lambda o t e
 
   -- err
   pub callee_err : h ≡ 10 → Runs m c m c (callee_of rows cells n x) none
@@ -339,12 +340,12 @@ module _ (rows cells : List ℕ) {m : List ℕ} {c : Record} where
     amounts_wrong p f given k e t R = then _ runs_types (rw (← e, ne_eqb k given t) R)
 
     -- an argument that has an input
-    pub argument_there : (n i : ℕ) (p : Span) (f : Callee) (y : ℕ) (v : MaybeType) (x : TypeId) (w : TypingError) {r : Ruled} → v ≡ nth (inputs_of (rows_of m c.counts.types) rows cells f) i → v ≡ type.Of x → w ≡ mismatch error·K.WrongArgumentTy p x.0 y i → Rules m c m' r (equate_on n x.0 y w) → Rules m c m' r (argument rows cells n p f i y)
+    pub argument_there : (n i : ℕ) (p : Span) (f : Callee) (y : ℕ) (v : Option TypeId) (x : TypeId) (w : TypingError) {r : Result Record Refusal} → v ≡ nth (inputs_of (rows_of m c.counts.types) rows cells f) i → v ≡ Some x → w ≡ mismatch error·K.WrongArgumentTy p x.0 y i → Rules m c m' r (equate_on n x.0 y w) → Rules m c m' r (argument rows cells n p f i y)
     unfolding argument
     argument_there n i p f y v x w e h is R = after_rules _ runs_types (rw (← e, h, ← is) R)
 
   -- an extra argument
-  pub argument_extra : (n i : ℕ) (p : Span) (f : Callee) (y : ℕ) (v : MaybeType) → v ≡ nth (inputs_of (rows_of m c.counts.types) rows cells f) i → v ≡ type.Absent → Runs m c m c (argument rows cells n p f i y) tt
+  pub argument_extra : (n i : ℕ) (p : Span) (f : Callee) (y : ℕ) (v : Option TypeId) → v ≡ nth (inputs_of (rows_of m c.counts.types) rows cells f) i → v ≡ None → Runs m c m c (argument rows cells n p f i y) tt
   unfolding argument
   argument_extra n i p f y v e h = then _ runs_types (rw (← e, h) runs_done)
 
@@ -353,40 +354,40 @@ pub method_err : (b : Body) {m : List ℕ} {c : Record} (n e x name : ℕ) → x
 unfolding method_of
 method_err b n e x name h = rw h runs_done
 
-module _ (b : Body) {m m' : List ℕ} {c d : Record} (n e x name : ℕ) (v : MaybeDef) (is : v ≡ method (rows_of m c.counts.types) b x name) (no : x ≡ 12 → ⊥) where
+module _ (b : Body) {m m' : List ℕ} {c d : Record} (n e x name : ℕ) (v : Option DefId) (is : v ≡ method (rows_of m c.counts.types) b x name) (no : x ≡ 12 → ⊥) where
   -- a method that is there
-  pub method_there : (f : DefId) → v ≡ def.Of f → Runs m c m' d (set_extra n (extra.Method f)) tt → Runs m c m' d (method_of b n e x name) (some f.0)
+  pub method_there : (f : DefId) → v ≡ Some f → Runs m c m' d (set_extra n (extra.Method f)) tt → Runs m c m' d (method_of b n e x name) (some f.0)
   unfolding method_of sought
   method_there f h R = rw (ne_eqb x 12 no) (then _ runs_types (rw (← is, h) (then _ R runs_done)))
 
   -- none of the name
-  pub method_none : v ≡ def.Absent → Runs m c m' d (error (own_error error·K.MethodNotFound (at e) x name)) tt → Runs m c m' d (method_of b n e x name) none
+  pub method_none : v ≡ None → Runs m c m' d (error (own_error error·K.MethodNotFound (at e) x name)) tt → Runs m c m' d (method_of b n e x name) none
   unfolding method_of sought
   method_none h R = rw (ne_eqb x 12 no) (then _ runs_types (rw (← is, h) (then _ R runs_done)))
 
 -- ── lambdas ──
 
 -- a param with a declared type
-pub param_declared : {m m' : List ℕ} {c : Record} (n : ℕ) (v w : MaybeType) (t : TypeId) → v ≡ w → v ≡ type.Of t → Runs m c m' c (set_node_type n t.0) tt → Runs m c m' c (lambda_param n w) tt
+pub param_declared : {m m' : List ℕ} {c : Record} (n : ℕ) (v w : Option TypeId) (t : TypeId) → v ≡ w → v ≡ Some t → Runs m c m' c (set_node_type n t.0) tt → Runs m c m' c (lambda_param n w) tt
 param_declared n v w t e h R = rw (← e, h) R
 
 -- a param without one
-pub param_drawn : {m m₁ m' : List ℕ} {c d : Record} (n x : ℕ) (v w : MaybeType) → v ≡ w → v ≡ type.Absent → Runs m c m₁ d (new_infer_var regular (drawn_by n)) x → Runs m₁ d m' d (set_node_type n x) tt → Runs m c m' d (lambda_param n w) tt
+pub param_drawn : {m m₁ m' : List ℕ} {c d : Record} (n x : ℕ) (v w : Option TypeId) → v ≡ w → v ≡ None → Runs m c m₁ d (new_infer_var regular (drawn_by n)) x → Runs m₁ d m' d (set_node_type n x) tt → Runs m c m' d (lambda_param n w) tt
 param_drawn n x v w e h D T = rw (← e, h) (then _ D T)
 
 module _ {m m' : List ℕ} {c d : Record} where
   -- a declared output
-  pub output_declared : (n v : ℕ) (t : MaybeType) (x : TypeId) → t ≡ type.Of x → Runs m c m' d (new_infer_var regular (drawn_by n)) v → Runs m c m' d (lambda_output n t) x.0
+  pub output_declared : (n v : ℕ) (t : Option TypeId) (x : TypeId) → t ≡ Some x → Runs m c m' d (new_infer_var regular (drawn_by n)) v → Runs m c m' d (lambda_output n t) x.0
   unfolding lambda_output
   output_declared n v t x h D = rw h (then _ D runs_done)
 
   -- none
-  pub output_drawn : (n v : ℕ) (t : MaybeType) → t ≡ type.Absent → Runs m c m' d (new_infer_var regular (drawn_by n)) v → Runs m c m' d (lambda_output n t) v
+  pub output_drawn : (n v : ℕ) (t : Option TypeId) → t ≡ None → Runs m c m' d (new_infer_var regular (drawn_by n)) v → Runs m c m' d (lambda_output n t) v
   unfolding lambda_output
   output_drawn n v t h D = rw h (then _ D runs_done)
 
   -- a body that was met or not, and then the type
-  pub lambda_made : {m₁ : List ℕ} (cells : List ℕ) (n e o y : ℕ) (t : Items) (w : TypingError) {r : Typed} → w ≡ mismatch error·K.TypeMismatch (at e) o y 0 → Runs m c m₁ d (equate_on n o y w) tt → Types m₁ d m' r (make_lambda n o (items_of cells t)) → Types m c m' r (lambda cells n e o y t)
+  pub lambda_made : {m₁ : List ℕ} (cells : List ℕ) (n e o y : ℕ) (t : Items) (w : TypingError) {r : Result (Record × TypeId) Refusal} → w ≡ mismatch error·K.TypeMismatch (at e) o y 0 → Runs m c m₁ d (equate_on n o y w) tt → Types m₁ d m' r (make_lambda n o (items_of cells t)) → Types m c m' r (lambda cells n e o y t)
   unfolding lambda
   lambda_made cells n e o y t w is E L = rw (← is) (after _ E L)
 
@@ -397,14 +398,14 @@ module _ {m m' : List ℕ} {c d : Record} where
 
 -- ── paths ──
 
-module _ {m : List ℕ} {c : Record} (n : ℕ) (r : Res) (l : NodeId) (is : r ≡ res.Local l) (v : NodeType) (found : v ≡ node_type (get_or (raws_of m) l.0 none)) where
+module _ {m : List ℕ} {c : Record} (n : ℕ) (r : Res) (l : NodeId) (is : r ≡ res.Local l) (v : Option TypeId) (found : v ≡ node_type (get_or (raws_of m) l.0 none)) where
   -- a typed local
-  pub local_typed : (t : TypeId) → v ≡ node-type·V.Typed t → Runs m c m c (type_res n r) t.0
+  pub local_typed : (t : TypeId) → v ≡ Some t → Runs m c m c (type_res n r) t.0
   unfolding type_res
   local_typed t h = rw is (then _ (runs_node_type l.0) (rw (typed_some (get_or (raws_of m) l.0 none) t (sym found ∙ h)) runs_done))
 
   -- one that is not yet typed
-  pub local_untyped : v ≡ node-type·V.Untyped → Stops m c m c (type_res n r) 11 n
+  pub local_untyped : v ≡ None → Stops m c m c (type_res n r) 11 n
   unfolding type_res
   local_untyped h = rw is (then_stops _ (runs_node_type l.0) (rw (untyped_none (get_or (raws_of m) l.0 none) (sym found ∙ h)) stops_refuse))
 
@@ -419,20 +420,20 @@ pub whole_refused : {m m' : List ℕ} {c d : Record} (n : ℕ) (r : Res) (k p : 
 unfolding whole_path
 whole_refused n r k p T = stops _ T
 
-module _ (b : Body) {m m₁ m' : List ℕ} {c : Record} (n x name : ℕ) (v : MaybeDef) (is : v ≡ method (rows_of m c.counts.types) b x name) where
+module _ (b : Body) {m m₁ m' : List ℕ} {c : Record} (n x name : ℕ) (v : Option DefId) (is : v ≡ method (rows_of m c.counts.types) b x name) where
   -- a path to a method
-  pub path_there : (f : DefId) {r : Typed} → v ≡ def.Of f → Runs m c m₁ c (set_extra n (extra.Resolved (res.Fn f))) tt → Types m₁ c m' r (fn_def_lem f.0) → Types m c m' r (path_found b n x name)
+  pub path_there : (f : DefId) {r : Result (Record × TypeId) Refusal} → v ≡ Some f → Runs m c m₁ c (set_extra n (extra.Resolved (res.Fn f))) tt → Types m₁ c m' r (fn_def_lem f.0) → Types m c m' r (path_found b n x name)
   unfolding path_found
   path_there f h X F = after _ runs_types (rw (← is, h) (after _ X F))
 
   -- a path to none
-  pub path_none : {d : Record} → v ≡ def.Absent → Runs m c m₁ c (set_extra n (extra.Resolved res.Error)) tt → Runs m₁ c m' d (error (own_error error·K.MethodNotFound (at n) x name)) tt → Runs m c m' d (path_found b n x name) err_type
+  pub path_none : {d : Record} → v ≡ None → Runs m c m₁ c (set_extra n (extra.Resolved res.Error)) tt → Runs m₁ c m' d (error (own_error error·K.MethodNotFound (at n) x name)) tt → Runs m c m' d (path_found b n x name) err_type
   unfolding path_found
   path_none h X R = then _ runs_types (rw (← is, h) (then _ X (then _ R runs_done)))
 
 module _ (b : Body) {m m' : List ℕ} {c : Record} (n k : ℕ) (t : Items) (l : k < t.count) (name : ℕ) (s : Res) (named : name ≡ segment_name b.cells t k) (last : s ≡ segment_res b.cells t (t.count - 1)) where
   -- a path of an instance
-  pub inst_found : {m₁ : List ℕ} {c₁ : Record} (x : ℕ) {r : Typed} → Runs m c m₁ c₁ (type_res n s) x → Types m₁ c₁ m' r (path_found b n x name) → Types m c m' r (inst_path b n k t)
+  pub inst_found : {m₁ : List ℕ} {c₁ : Record} (x : ℕ) {r : Result (Record × TypeId) Refusal} → Runs m c m₁ c₁ (type_res n s) x → Types m₁ c₁ m' r (path_found b n x name) → Types m c m' r (inst_path b n k t)
   unfolding inst_path path_of
   inst_found x T P = rw (lt-ltb k t.count l, ← last, ← named) (after _ T P)
 
@@ -448,12 +449,12 @@ inst_short b n k t h = rw (le-ltb k t.count h) stops_refuse
 
 module _ (b : Body) {m m' : List ℕ} {c : Record} (n k : ℕ) (r : Res) (t : Items) where
   -- a partly failed path
-  pub path_failed : {x : Typed} → is_partly_failed b.cells t ≡ true → Types m c m' x (failed_path b n r k t) → Types m c m' x (path b n r k t)
+  pub path_failed : {x : Result (Record × TypeId) Refusal} → is_partly_failed b.cells t ≡ true → Types m c m' x (failed_path b n r k t) → Types m c m' x (path b n r k t)
   unfolding path
   path_failed h R = rw h R
 
   -- a whole path
-  pub path_whole : {x : Typed} → is_partly_failed b.cells t ≡ false → Types m c m' x (whole_path n r) → Types m c m' x (path b n r k t)
+  pub path_whole : {x : Result (Record × TypeId) Refusal} → is_partly_failed b.cells t ≡ false → Types m c m' x (whole_path n r) → Types m c m' x (path b n r k t)
   unfolding path
   path_whole h R = rw h R
 
@@ -464,21 +465,26 @@ failed_error b n k t X = then _ X runs_done
 
 -- ── by the variant of a parameter ──
 
-module _ {m m' : List ℕ} {c : Record} {z : Typed} where
+module _ {m m' : List ℕ} {c : Record} {z : Result (Record × TypeId) Refusal} where
   -- the address of an operand
   pub op_address : (o : UnOp) (e x : ℕ) → o ≡ un.Address → Types m c m' z (ref_to_lem x) → Types m c m' z (un_op_lem o e x)
   unfolding un_op_lem
   op_address o e x h R = rw h R
 
   -- RES f
-  pub res_fn : (n : ℕ) (r : Res) (d : DefId) → r ≡ res.Fn d → Types m c m' z (fn_def_lem d.0) → Types m c m' z (type_res n r)
+  res_fn : (n : ℕ) (r : Res) (d : DefId) → r ≡ res.Fn d → Types m c m' z (fn_def_lem d.0) → Types m c m' z (type_res n r)
   unfolding type_res
   res_fn n r d h R = rw h R
 
   -- RES c
-  pub res_ctor : (n : ℕ) (r : Res) (d : DefId) → r ≡ res.Ctor d → Types m c m' z (fn_def_lem d.0) → Types m c m' z (type_res n r)
+  res_ctor : (n : ℕ) (r : Res) (d : DefId) → r ≡ res.Ctor d → Types m c m' z (fn_def_lem d.0) → Types m c m' z (type_res n r)
   unfolding type_res
   res_ctor n r d h R = rw h R
+
+  -- either of them
+  pub res_def : (n : ℕ) (r : Res) (d : DefId) → (r ≡ res.Fn d) ⊎ (r ≡ res.Ctor d) → Types m c m' z (fn_def_lem d.0) → Types m c m' z (type_res n r)
+  res_def n r d (inl h) R = res_fn n r d h R
+  res_def n r d (inr h) R = res_ctor n r d h R
 
   -- a partly failed path of RES i
   pub failed_inst : (b : Body) (n k : ℕ) (r : Res) (t : Items) (i : InstId) → r ≡ res.Inst i → Types m c m' z (inst_path b n k t) → Types m c m' z (failed_path b n r k t)
@@ -513,27 +519,34 @@ module _ {m : List ℕ} {c : Record} where
 
   module _ (b : Body) (n k : ℕ) (r : Res) (t : Items) where
     -- a partly failed path of RES l
-    pub failed_local : (l : NodeId) → r ≡ res.Local l → Stops m c m c (failed_path b n r k t) 10 n
+    failed_local : (l : NodeId) → r ≡ res.Local l → Stops m c m c (failed_path b n r k t) 10 n
     unfolding failed_path
     failed_local l h = rw h stops_refuse
 
     -- of RES f
-    pub failed_fn : (d : DefId) → r ≡ res.Fn d → Stops m c m c (failed_path b n r k t) 10 n
+    failed_fn : (d : DefId) → r ≡ res.Fn d → Stops m c m c (failed_path b n r k t) 10 n
     unfolding failed_path
     failed_fn d h = rw h stops_refuse
 
     -- of RES c
-    pub failed_ctor : (d : DefId) → r ≡ res.Ctor d → Stops m c m c (failed_path b n r k t) 10 n
+    failed_ctor : (d : DefId) → r ≡ res.Ctor d → Stops m c m c (failed_path b n r k t) 10 n
     unfolding failed_path
     failed_ctor d h = rw h stops_refuse
 
     -- of RES o
-    pub failed_o : r ≡ res.Other → Stops m c m c (failed_path b n r k t) 10 n
+    failed_o : r ≡ res.Other → Stops m c m c (failed_path b n r k t) 10 n
     unfolding failed_path
     failed_o h = rw h stops_refuse
 
+    -- of any of them
+    pub failed_none : ((l : NodeId) × (r ≡ res.Local l)) ⊎ (((d : DefId) × (r ≡ res.Fn d)) ⊎ (((d : DefId) × (r ≡ res.Ctor d)) ⊎ (r ≡ res.Other))) → Stops m c m c (failed_path b n r k t) 10 n
+    failed_none (inl h) = failed_local h.0 h.1
+    failed_none (inr (inl h)) = failed_fn h.0 h.1
+    failed_none (inr (inr (inl h))) = failed_ctor h.0 h.1
+    failed_none (inr (inr (inr h))) = failed_o h
+
 -- a let with a declared type, and its init
-pub let_of : {m m' : List ℕ} {c : Record} {z : Ruled} (n y : ℕ) (t : MaybeType) (x : TypeId) → t ≡ type.Of x → Rules m c m' z (let_with_init n (type.Of x) y) → Rules m c m' z (let_with_init n t y)
+pub let_of : {m m' : List ℕ} {c : Record} {z : Result Record Refusal} (n y : ℕ) (t : Option TypeId) (x : TypeId) → t ≡ Some x → Rules m c m' z (let_with_init n (Some x) y) → Rules m c m' z (let_with_init n t y)
 let_of n y t x h R = rw h R
 
 -- ── the loop over the params of a lambda ──

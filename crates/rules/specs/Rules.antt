@@ -1,15 +1,10 @@
 -- The typing rules, as far as they type no other node: what a rule does once its children have their types. Definitions alone.
-use Rattle.std.specs.Prelude.{List, Bool, true, false, cond, ℕ, ◌-◌, length, eqb, ltb, leb}
+use Rattle.std.specs.Prelude.{List, cond, ℕ, ◌-◌, length, eqb, ltb, leb, None, Option as Option·R, Some}
 use Rattle.std.proofs.Math.Option.{Option, none, some}
-use Rattle.theory.specs.Rules.{Base, bool, nil, float, double, uint, int, inst, Shape, base, var, arr, ref, fn, fun, lam, err, div, Kind, regular, as_var, head, error_head}
+use Rattle.theory.specs.Rules.{Base, bool, nil, float, double, uint, int, inst, Shape, base, var, arr, ref, fn, fun, lam, err, div, regular, as_var, head, error_head}
 use Rattle.theory.specs.Program.{done, refuse, ◌>>=◌}
-use Rattle.type_table.specs.declared.NodeId.{NodeId}
 use Rattle.type_table.specs.declared.DefId.{DefId}
 use Rattle.type_table.specs.declared.TypeId.{TypeId}
-use Rattle.nodes.specs.declared.MaybeType.{MaybeType}
-use Rattle.nodes.specs.declared.MaybeType.TheVariants as type
-use Rattle.nodes.specs.declared.MaybeDef.{MaybeDef}
-use Rattle.nodes.specs.declared.MaybeDef.TheVariants as def
 use Rattle.nodes.specs.declared.Items.{Items}
 use Rattle.nodes.specs.declared.Res.{Res}
 use Rattle.nodes.specs.declared.Res.TheVariants as res
@@ -20,13 +15,11 @@ use Rattle.nodes.specs.declared.UnOp.TheVariants as un
 use Rattle.nodes.specs.declared.Callee.{Callee}
 use Rattle.nodes.specs.declared.Callee.TheVariants as callee
 use Rattle.nodes.specs.Nodes.{Body, item, items_of, declared_at, output_of, inputs_of, nth, field_type, as_arr, method, is_partly_failed, segment_name, segment_res}
-use Rattle.record.specs.declared.Extra.{Extra}
 use Rattle.record.specs.declared.Extra.TheVariants as extra
 use Rattle.record.specs.declared.ErrorKind.{ErrorKind}
 use Rattle.record.specs.declared.ErrorKind.TheVariants as error·K
 use Rattle.record.specs.declared.Span.{Span}
 use Rattle.record.specs.declared.Span.TheVariants as span
-use Rattle.record.specs.declared.Second.TheVariants as second
 use Rattle.record.specs.declared.TypingError.{TypingError}
 use Rattle.record.specs.Steps.{Walk, Step, set_node_type, set_extra, node_type_lem, shape_of_lem, all_types, output, drawn_by, new_infer_var, array_of, ref_to_lem, fn_def_lem, instance, make_lambda, mark_var, error, equation, for_each}
 
@@ -60,15 +53,15 @@ at n = span.Node (record { 0 = n })
 
 -- an error that no equation raised
 abbrev pub own_error : ErrorKind → Span → ℕ → ℕ → TypingError
-own_error k p x y = record { kind = k; cause = 0; at = p; second = second.Absent; a = x; b = y; c = 0 }
+own_error k p x y = record { kind = k; cause = 0; at = p; second = None; a = x; b = y; c = 0 }
 
 -- the error of an equation of x and y; i is the position of an argument
 abbrev pub mismatch : ErrorKind → Span → ℕ → ℕ → ℕ → TypingError
-mismatch k p x y i = record { kind = k; cause = 0; at = p; second = second.Absent; a = x; b = y; c = i }
+mismatch k p x y i = record { kind = k; cause = 0; at = p; second = None; a = x; b = y; c = i }
 
 -- the same, between two nodes
 abbrev pub between : ErrorKind → ℕ → ℕ → ℕ → ℕ → TypingError
-between k p q x y = record { kind = k; cause = 0; at = at p; second = second.At (record { 0 = q }); a = x; b = y; c = 0 }
+between k p q x y = record { kind = k; cause = 0; at = at p; second = Some (record { 0 = q }); a = x; b = y; c = 0 }
 
 -- an equation in the rule of the node n, after which the rule gives the type t
 unfoldable pub equate_for : ℕ → ℕ → ℕ → TypingError → ℕ → Walk ℕ
@@ -180,9 +173,9 @@ as_inst err = none
 as_inst div = none
 
 -- the type of a field, or that there is none of the name
-abbrev pub field_of : ℕ → ℕ → ℕ → MaybeType → Walk ℕ
-field_of e x name (type.Of t) = done t.0
-field_of e x name type.Absent = do
+abbrev pub field_of : ℕ → ℕ → ℕ → Option·R TypeId → Walk ℕ
+field_of e x name (Some t) = done t.0
+field_of e x name None = do
   _ ← error (own_error error·K.NoField (at e) x name)
   done err_type
 
@@ -246,18 +239,18 @@ local_type n x t = do
   set_node_type n t
 
 -- `typeck_local` without init: its declared type, or a new variable, which does not enter `local_tys`
-abbrev pub let_without_init : ℕ → MaybeType → Step
-let_without_init n (type.Of t) = local_type n t.0 t.0
-let_without_init n type.Absent = do
+abbrev pub let_without_init : ℕ → Option·R TypeId → Step
+let_without_init n (Some t) = local_type n t.0 t.0
+let_without_init n None = do
   v ← new_infer_var regular (drawn_by n)
   set_node_type n v
 
 -- `typeck_local` with an init of the type y
-abbrev pub let_with_init : ℕ → MaybeType → ℕ → Step
-let_with_init n (type.Of t) y = do
+abbrev pub let_with_init : ℕ → Option·R TypeId → ℕ → Step
+let_with_init n (Some t) y = do
   _ ← equation n t.0 y (mismatch error·K.TypeMismatch (at n) t.0 y 0)
   local_type n y t.0
-let_with_init n type.Absent y = local_type n y y
+let_with_init n None y = local_type n y y
 
 -- a callee that is none
 unfoldable pub not_called : ℕ → ℕ → Walk (Option (Callee × ℕ))
@@ -268,20 +261,20 @@ not_called n x = do
 -- ── lambdas ──
 
 -- a declared type, or the one that was drawn
-abbrev pub declared_or : MaybeType → ℕ → ℕ
-declared_or (type.Of t) v = t.0
-declared_or type.Absent v = v
+abbrev pub declared_or : Option·R TypeId → ℕ → ℕ
+declared_or (Some t) v = t.0
+declared_or None v = v
 
 -- the output of a lambda: a variable is always drawn, even with a declared output
-unfoldable pub lambda_output : ℕ → MaybeType → Walk ℕ
+unfoldable pub lambda_output : ℕ → Option·R TypeId → Walk ℕ
 lambda_output n t = do
   v ← new_infer_var regular (drawn_by n)
   done (declared_or t v)
 
 -- a param of a lambda: its declared type, or a new variable
-abbrev pub lambda_param : ℕ → MaybeType → Step
-lambda_param n (type.Of t) = set_node_type n t.0
-lambda_param n type.Absent = do
+abbrev pub lambda_param : ℕ → Option·R TypeId → Step
+lambda_param n (Some t) = set_node_type n t.0
+lambda_param n None = do
   v ← new_infer_var regular (drawn_by n)
   set_node_type n v
 
@@ -311,11 +304,11 @@ whole_path n r = do
   done t
 
 -- the method that a path of an instance leads to, or an error
-abbrev pub path_method : ℕ → ℕ → ℕ → MaybeDef → Walk ℕ
-path_method n x name (def.Of d) = do
+abbrev pub path_method : ℕ → ℕ → ℕ → Option·R DefId → Walk ℕ
+path_method n x name (Some d) = do
   _ ← set_extra n (extra.Resolved (res.Fn d))
   fn_def_lem d.0
-path_method n x name def.Absent = do
+path_method n x name None = do
   _ ← set_extra n (extra.Resolved res.Error)
   _ ← error (own_error error·K.MethodNotFound (at n) x name)
   done err_type
@@ -363,9 +356,9 @@ module _ (rows cells : List ℕ) where
     amounts_of p given (length (inputs_of ts rows cells f))
 
   -- an argument of the type y at the position i against its input; an extra one has none
-  abbrev pub argument_for : ℕ → Span → ℕ → ℕ → MaybeType → Step
-  argument_for n p i y (type.Of x) = equate_on n x.0 y (mismatch error·K.WrongArgumentTy p x.0 y i)
-  argument_for n p i y type.Absent = done tt
+  abbrev pub argument_for : ℕ → Span → ℕ → ℕ → Option·R TypeId → Step
+  argument_for n p i y (Some x) = equate_on n x.0 y (mismatch error·K.WrongArgumentTy p x.0 y i)
+  argument_for n p i y None = done tt
 
   -- the argument at the position i
   unfoldable pub argument : ℕ → Span → Callee → ℕ → ℕ → Step
@@ -390,11 +383,11 @@ lambda cells n e o y t = do
   make_lambda n o (items_of cells t)
 
 -- the method that was found, or an error; e is the receiver, of the type x
-abbrev pub method_or_error : ℕ → ℕ → ℕ → ℕ → MaybeDef → Walk (Option ℕ)
-method_or_error n e x name (def.Of d) = do
+abbrev pub method_or_error : ℕ → ℕ → ℕ → ℕ → Option·R DefId → Walk (Option ℕ)
+method_or_error n e x name (Some d) = do
   _ ← set_extra n (extra.Method d)
   done (some d.0)
-method_or_error n e x name def.Absent = do
+method_or_error n e x name None = do
   _ ← error (own_error error·K.MethodNotFound (at e) x name)
   done none
 

@@ -1,25 +1,22 @@
 // The typing rules, as far as they type no other node: what a rule does once its children have their types.
 #![tactic(auto)]
 
-ghost use Rattle.std.specs.Prelude.{◌≡◌};
+ghost use Rattle.std.specs.Prelude.{Some, ◌≡◌};
 ghost use Rattle.std.proofs.Math.Option.{none};
 ghost use Rattle.type_table.specs.Memory.{kind_of};
 ghost use Rattle.type_table.specs.Made.{kind_number};
-ghost use Rattle.nodes.specs.declared.MaybeType.TheVariants as type;
 ghost use Rattle.nodes.specs.declared.UnOp.TheVariants as un;
 ghost use Rattle.nodes.specs.Nodes.{items_of, declared_at};
 ghost use Rattle.record.specs.Steps.{new_infer_var, ref_to_lem, fn_def_lem, make_lambda, error};
 ghost use Rattle.record.specs.Encodes.{Runs, Gives, Types, Rules};
-ghost use Rattle.rules.specs.Rules.{own_error, equate_for, equate_on, bin_type, bin_op_lem, no_unary_op, un_op_lem, op_assign, field_of, list_of, empty_list, element_of, let_without_init, let_with_init, callee_of, method_of, lambda_param, lambda_params, lambda_output, type_res, whole_path, path_found, inst_path, failed_path};
-ghost use Rattle.rules.specs.Answers.{tables, Indexes, Calls, Finds};
+ghost use Rattle.rules.specs.Rules.{own_error, equate_for, equate_on, bin_type, bin_op_lem, no_unary_op, un_op_lem, op_assign, list_of, empty_list, element_of, let_without_init, let_with_init, callee_of, method_of, lambda_param, lambda_params, lambda_output, type_res, whole_path, path_found, inst_path, failed_path};
+ghost use Rattle.rules.specs.Answers.{lent, Indexes, Calls, Finds};
 
-use nodes::{BinOp, Callee, Items, MaybeDef, MaybeType, Res, UnOp};
-use record::{
-    Equated, ErrorKind, Extra, Given, NodeType, Record, Ruled, Second, Span, Typed, TypingError,
-};
+use nodes::{BinOp, Body, Callee, Items, Res, UnOp};
+use record::{Equated, ErrorKind, Extra, Given, Record, Refusal, Span, TypingError};
 use type_table::{
     DefId, HEAD_ARRAY, HEAD_ERROR, HEAD_FN_DEF, HEAD_INFER_TY, HEAD_INSTANCE, HEAD_INT,
-    HEAD_LAMBDA, HEAD_PARAM, HEAD_REF, Kind, NodeId, Origin, TypeId,
+    HEAD_LAMBDA, HEAD_PARAM, HEAD_REF, Kind, NodeId, TypeId,
 };
 
 // The fields of `Types` that rules name.
@@ -46,9 +43,9 @@ fn own_error(m: &mut [u16], c: Record, k: ErrorKind, p: Span, a: u16, b: u16) ->
             kind: k,
             cause: 0,
             at: p,
-            second: Second::Absent,
-            a: a,
-            b: b,
+            second: None,
+            a,
+            b,
             c: 0,
         },
     )
@@ -58,15 +55,13 @@ fn own_error(m: &mut [u16], c: Record, k: ErrorKind, p: Span, a: u16, b: u16) ->
 fn mismatch(k: ErrorKind, p: Span, x: TypeId, y: TypeId, i: u16) -> TypingError
     ensures { result ≡ Rattle.rules.specs.Rules.mismatch k p x.0 y.0 i }
 {
-    let a = x.0;
-    let b = y.0;
     TypingError {
         kind: k,
         cause: 0,
         at: p,
-        second: Second::Absent,
-        a: a,
-        b: b,
+        second: None,
+        a: x.0,
+        b: y.0,
         c: i,
     }
 }
@@ -75,15 +70,13 @@ fn mismatch(k: ErrorKind, p: Span, x: TypeId, y: TypeId, i: u16) -> TypingError
 fn between(k: ErrorKind, p: NodeId, q: NodeId, x: TypeId, y: TypeId) -> TypingError
     ensures { result ≡ Rattle.rules.specs.Rules.between k p.0 q.0 x.0 y.0 }
 {
-    let a = x.0;
-    let b = y.0;
     TypingError {
         kind: k,
         cause: 0,
         at: Span::Node(p),
-        second: Second::At(q),
-        a: a,
-        b: b,
+        second: Some(q),
+        a: x.0,
+        b: y.0,
         c: 0,
     }
 }
@@ -97,37 +90,48 @@ fn equate_for(
     y: TypeId,
     e: TypingError,
     t: TypeId,
-) -> Typed
+) -> Result<(Record, TypeId), Refusal>
     ensures { Types m.old c m.new result (equate_for n.0 x.0 y.0 e t.0) }
 {
     match running::equate(m, c, n, x, y, e) {
-        Equated::Met(d) => Typed::Type(d, t),
-        Equated::Failed(d) => Typed::Type(d, t),
-        Equated::Refused(k, d) => Typed::Refused(k, d, n),
+        Equated::Met(d) | Equated::Failed(d) => Ok((d, t)),
+        Equated::Refused(k, d) => Err(Refusal {
+            number: k,
+            record: d,
+            node: n,
+        }),
     }
 }
 
 // An equation after which the rule goes on.
-fn equate_on(m: &mut [u16], c: Record, n: NodeId, x: TypeId, y: TypeId, e: TypingError) -> Ruled
+fn equate_on(
+    m: &mut [u16],
+    c: Record,
+    n: NodeId,
+    x: TypeId,
+    y: TypeId,
+    e: TypingError,
+) -> Result<Record, Refusal>
     ensures { Rules m.old c m.new result (equate_on n.0 x.0 y.0 e) }
 {
     match running::equate(m, c, n, x, y, e) {
-        Equated::Met(d) => Ruled::Done(d),
-        Equated::Failed(d) => Ruled::Done(d),
-        Equated::Refused(k, d) => Ruled::Refused(k, d, n),
+        Equated::Met(d) | Equated::Failed(d) => Ok(d),
+        Equated::Refused(k, d) => Err(Refusal {
+            number: k,
+            record: d,
+            node: n,
+        }),
     }
 }
 
 // ── literals ──
 
 // A literal's variable.
-pub fn literal(m: &mut [u16], c: Record, k: Kind) -> Typed
+pub fn literal(m: &mut [u16], c: Record, k: Kind) -> Result<(Record, TypeId), Refusal>
     ensures { Types m.old c m.new result (new_infer_var (kind_of (kind_number k)) none) }
 {
-    let r = running::new_infer_var(m, c, k, Origin::Literal);
-    let d = r.record;
-    let t = r.ty;
-    Typed::Type(d, t)
+    let r = running::new_infer_var(m, c, k, None);
+    Ok((r.record, r.ty))
 }
 
 // ── operators ──
@@ -137,8 +141,7 @@ fn bin_type(o: BinOp, x: TypeId) -> TypeId
 {
     match o {
         BinOp::Boolean => TypeId(BOOL),
-        BinOp::Ordering => x,
-        BinOp::Other => x,
+        BinOp::Ordering | BinOp::Other => x,
     }
 }
 
@@ -152,76 +155,78 @@ pub fn bin_op(
     r: NodeId,
     x: TypeId,
     y: TypeId,
-) -> Typed
+) -> Result<(Record, TypeId), Refusal>
     ensures { Types m.old c m.new result (bin_op_lem n.0 o l.0 r.0 x.0 y.0) }
 {
     match running::equate(m, c, n, x, y, between(ErrorKind::NoBinaryOp, l, r, x, y)) {
-        Equated::Met(d) => Typed::Type(d, bin_type(o, x)),
-        Equated::Failed(d) => Typed::Type(d, TypeId(ERR)),
-        Equated::Refused(k, d) => Typed::Refused(k, d, n),
+        Equated::Met(d) => Ok((d, bin_type(o, x))),
+        Equated::Failed(d) => Ok((d, TypeId(ERR))),
+        Equated::Refused(k, d) => Err(Refusal {
+            number: k,
+            record: d,
+            node: n,
+        }),
     }
 }
 
 // No operator for the operand e, of the type x.
-fn no_unary_op(m: &mut [u16], c: Record, e: NodeId, x: TypeId) -> Typed
+fn no_unary_op(m: &mut [u16], c: Record, e: NodeId, x: TypeId) -> Result<(Record, TypeId), Refusal>
     ensures { Types m.old c m.new result (no_unary_op e.0 x.0) }
 {
-    let a = x.0;
-    let d = own_error(m, c, ErrorKind::NoUnaryOp, Span::Node(e), a, 0);
-    Typed::Type(d, TypeId(ERR))
+    let d = own_error(m, c, ErrorKind::NoUnaryOp, Span::Node(e), x.0, 0);
+    Ok((d, TypeId(ERR)))
 }
 
-fn deref(m: &mut [u16], c: Record, e: NodeId, x: TypeId) -> Typed
+fn deref(m: &mut [u16], c: Record, e: NodeId, x: TypeId) -> Result<(Record, TypeId), Refusal>
     ensures { Types m.old c m.new result (un_op_lem un.Deref e.0 x.0) }
 {
-    let d = c.counts;
-    if type_table::head(m, d, x) == HEAD_REF {
-        let y = type_table::element(m, d, x);
-        return Typed::Type(c, y);
+    if type_table::head(m, c.counts, x) == HEAD_REF {
+        Ok((c, type_table::element(m, c.counts, x)))
+    } else {
+        no_unary_op(m, c, e, x)
     }
-    no_unary_op(m, c, e, x)
 }
 
-fn address(m: &mut [u16], c: Record, x: TypeId) -> Typed
+fn address(m: &mut [u16], c: Record, x: TypeId) -> Result<(Record, TypeId), Refusal>
     ensures { Types m.old c m.new result (ref_to_lem x.0) }
 {
     let r = running::ref_to(m, c, x);
-    let d = r.record;
-    let t = r.ty;
-    Typed::Type(d, t)
+    Ok((r.record, r.ty))
 }
 
 // Negation marks a variable, bound or not.
-fn negation(m: &mut [u16], c: Record, e: NodeId, x: TypeId) -> Typed
+fn negation(m: &mut [u16], c: Record, e: NodeId, x: TypeId) -> Result<(Record, TypeId), Refusal>
     ensures { Types m.old c m.new result (un_op_lem un.Negation e.0 x.0) }
 {
-    let d = c.counts;
-    let h = type_table::head(m, d, x);
-    if h == HEAD_INT {
-        return Typed::Type(c, x);
+    match type_table::head(m, c.counts, x) {
+        HEAD_INT => Ok((c, x)),
+        HEAD_INFER_TY => {
+            record::mark(m, c, type_table::var_of(m, c.counts, x));
+            Ok((c, x))
+        }
+        _ => no_unary_op(m, c, e, x),
     }
-    if h == HEAD_INFER_TY {
-        let v = type_table::var_of(m, d, x);
-        record::mark(m, c, v);
-        return Typed::Type(c, x);
-    }
-    no_unary_op(m, c, e, x)
 }
 
-fn not(m: &mut [u16], c: Record, e: NodeId, x: TypeId) -> Typed
+fn not(m: &mut [u16], c: Record, e: NodeId, x: TypeId) -> Result<(Record, TypeId), Refusal>
     ensures { Types m.old c m.new result (un_op_lem un.Not e.0 x.0) }
 {
-    let d = c.counts;
-    let h = type_table::head(m, d, x);
     // Bool, Uint and Int are the first heads
-    if h <= HEAD_INT {
-        return Typed::Type(c, x);
+    if type_table::head(m, c.counts, x) <= HEAD_INT {
+        Ok((c, x))
+    } else {
+        no_unary_op(m, c, e, x)
     }
-    no_unary_op(m, c, e, x)
 }
 
 // `typeck_expr_un_op`, of an operand of the type x.
-pub fn un_op(m: &mut [u16], c: Record, o: UnOp, e: NodeId, x: TypeId) -> Typed
+pub fn un_op(
+    m: &mut [u16],
+    c: Record,
+    o: UnOp,
+    e: NodeId,
+    x: TypeId,
+) -> Result<(Record, TypeId), Refusal>
     ensures { Types m.old c m.new result (un_op_lem o e.0 x.0) }
 {
     match o {
@@ -241,7 +246,7 @@ pub fn assign(
     e: NodeId,
     x: TypeId,
     y: TypeId,
-) -> Typed
+) -> Result<(Record, TypeId), Refusal>
     ensures { Types m.old c m.new result (Rattle.rules.specs.Rules.assign n.0 v.0 e.0 x.0 y.0) }
 {
     equate_for(
@@ -256,7 +261,13 @@ pub fn assign(
 }
 
 // `ExprKind::AssignWithOp`.
-pub fn op_assign(m: &mut [u16], c: Record, n: NodeId, x: TypeId, y: TypeId) -> Typed
+pub fn op_assign(
+    m: &mut [u16],
+    c: Record,
+    n: NodeId,
+    x: TypeId,
+    y: TypeId,
+) -> Result<(Record, TypeId), Refusal>
     ensures { Types m.old c m.new result (op_assign n.0 x.0 y.0) }
 {
     equate_for(
@@ -272,69 +283,58 @@ pub fn op_assign(m: &mut [u16], c: Record, n: NodeId, x: TypeId, y: TypeId) -> T
 
 // ── fields, lists, indices ──
 
-// The type of a field, or that there is none of the name.
-fn field_of(m: &mut [u16], c: Record, e: NodeId, x: TypeId, name: u16, f: MaybeType) -> Typed
-    ensures { Types m.old c m.new result (field_of e.0 x.0 name f) }
-{
-    match f {
-        MaybeType::Of(t) => Typed::Type(c, t),
-        MaybeType::Absent => {
-            let a = x.0;
-            let d = own_error(m, c, ErrorKind::NoField, Span::Node(e), a, name);
-            Typed::Type(d, TypeId(ERR))
-        }
-    }
-}
-
 // `typeck_expr_field`, of a source of the type x.
 pub fn field(
-    rows: &[u16],
-    cells: &[u16],
+    body: Body<'_>,
     m: &mut [u16],
     c: Record,
     e: NodeId,
     x: TypeId,
     name: u16,
-) -> Typed
-    ensures { Types m.old c m.new result (Rattle.rules.specs.Rules.field rows.now cells.now e.0 x.0 name) }
+) -> Result<(Record, TypeId), Refusal>
+    ensures { Types m.old c m.new result (Rattle.rules.specs.Rules.field body.entry.rows.now body.entry.cells.now e.0 x.0 name) }
 {
-    let d = c.counts;
-    let h = type_table::head(m, d, x);
-    if h == HEAD_INSTANCE {
-        let k = type_table::inst_of(m, d, x);
-        let f = nodes::field_type(rows, cells, k, name);
-        return field_of(m, c, e, x, name, f);
+    match type_table::head(m, c.counts, x) {
+        HEAD_INSTANCE => match body.field_type(type_table::inst_of(m, c.counts, x), name) {
+            Some(t) => Ok((c, t)),
+            None => {
+                let r = own_error(m, c, ErrorKind::NoField, Span::Node(e), x.0, name);
+                Ok((r, TypeId(ERR)))
+            }
+        },
+        HEAD_ERROR => Ok((c, TypeId(ERR))),
+        _ => {
+            let r = own_error(m, c, ErrorKind::NotInstance, Span::Node(e), x.0, 0);
+            Ok((r, TypeId(ERR)))
+        }
     }
-    if h == HEAD_ERROR {
-        return Typed::Type(c, TypeId(ERR));
-    }
-    let a = x.0;
-    let r = own_error(m, c, ErrorKind::NotInstance, Span::Node(e), a, 0);
-    Typed::Type(r, TypeId(ERR))
 }
 
 // The array of e.
-pub fn list_of(m: &mut [u16], c: Record, e: TypeId) -> Typed
+pub fn list_of(m: &mut [u16], c: Record, e: TypeId) -> Result<(Record, TypeId), Refusal>
     ensures { Types m.old c m.new result (list_of e.0) }
 {
     let r = running::array_of(m, c, e);
-    let d = r.record;
-    let t = r.ty;
-    Typed::Type(d, t)
+    Ok((r.record, r.ty))
 }
 
 // An empty list: its element is a new variable.
-pub fn empty_list(m: &mut [u16], c: Record, n: NodeId) -> Typed
+pub fn empty_list(m: &mut [u16], c: Record, n: NodeId) -> Result<(Record, TypeId), Refusal>
     ensures { Types m.old c m.new result (empty_list n.0) }
 {
-    let r = running::new_infer_var(m, c, Kind::Regular, Origin::Node(n));
-    let d = r.record;
-    let t = r.ty;
-    list_of(m, d, t)
+    let r = running::new_infer_var(m, c, Kind::Regular, Some(n));
+    list_of(m, r.record, r.ty)
 }
 
 // A later element of a list against the first.
-pub fn element(m: &mut [u16], c: Record, n: NodeId, i: NodeId, x: TypeId, y: TypeId) -> Ruled
+pub fn element(
+    m: &mut [u16],
+    c: Record,
+    n: NodeId,
+    i: NodeId,
+    x: TypeId,
+    y: TypeId,
+) -> Result<Record, Refusal>
     ensures { Rules m.old c m.new result (Rattle.rules.specs.Rules.element n.0 i.0 x.0 y.0) }
 {
     equate_on(
@@ -347,29 +347,25 @@ pub fn element(m: &mut [u16], c: Record, n: NodeId, i: NodeId, x: TypeId, y: Typ
     )
 }
 
-// What is indexed: an array's element, or an error.
-#[derive(Clone, Copy)]
-pub enum Indexed {
-    Element(TypeId),
-    Not(Record),
-}
-
 // `typeck_expr_index`: whether a type has elements.
-pub fn element_of(m: &mut [u16], c: Record, n: NodeId, x: TypeId) -> Indexed
+pub fn element_of(m: &mut [u16], c: Record, n: NodeId, x: TypeId) -> Result<TypeId, Record>
     ensures { Indexes m.old c m.new result (element_of n.0 x.0) }
 {
-    let d = c.counts;
-    if type_table::head(m, d, x) == HEAD_ARRAY {
-        let e = type_table::element(m, d, x);
-        return Indexed::Element(e);
+    if type_table::head(m, c.counts, x) == HEAD_ARRAY {
+        Ok(type_table::element(m, c.counts, x))
+    } else {
+        Err(own_error(m, c, ErrorKind::NoIndexOp, Span::Node(n), x.0, 0))
     }
-    let a = x.0;
-    let r = own_error(m, c, ErrorKind::NoIndexOp, Span::Node(n), a, 0);
-    Indexed::Not(r)
 }
 
 // The index has to be a u64.
-pub fn index(m: &mut [u16], c: Record, n: NodeId, e: TypeId, y: TypeId) -> Typed
+pub fn index(
+    m: &mut [u16],
+    c: Record,
+    n: NodeId,
+    e: TypeId,
+    y: TypeId,
+) -> Result<(Record, TypeId), Refusal>
     ensures { Types m.old c m.new result (Rattle.rules.specs.Rules.index n.0 e.0 y.0) }
 {
     equate_for(
@@ -389,15 +385,22 @@ pub fn index(m: &mut [u16], c: Record, n: NodeId, e: TypeId, y: TypeId) -> Typed
 pub fn condition(m: &mut [u16], c: Record, e: NodeId, x: TypeId) -> Record
     ensures { Runs m.old c m.new result (Rattle.rules.specs.Rules.condition e.0 x.0) tt }
 {
-    let a = x.0;
-    if a == BOOL {
-        return c;
+    if x.0 == BOOL {
+        c
+    } else {
+        own_error(m, c, ErrorKind::TypeMismatch, Span::Node(e), BOOL, x.0)
     }
-    own_error(m, c, ErrorKind::TypeMismatch, Span::Node(e), BOOL, a)
 }
 
 // The block of an `if` against what stands after else.
-pub fn branches(m: &mut [u16], c: Record, n: NodeId, e: NodeId, x: TypeId, y: TypeId) -> Typed
+pub fn branches(
+    m: &mut [u16],
+    c: Record,
+    n: NodeId,
+    e: NodeId,
+    x: TypeId,
+    y: TypeId,
+) -> Result<(Record, TypeId), Refusal>
     ensures { Types m.old c m.new result (Rattle.rules.specs.Rules.branches n.0 e.0 x.0 y.0) }
 {
     equate_for(
@@ -412,7 +415,13 @@ pub fn branches(m: &mut [u16], c: Record, n: NodeId, e: NodeId, x: TypeId, y: Ty
 }
 
 // `ExprKind::Return`: it answers to the enclosing function. The error spans the node p.
-pub fn returned(m: &mut [u16], c: Record, n: NodeId, p: NodeId, y: TypeId) -> Typed
+pub fn returned(
+    m: &mut [u16],
+    c: Record,
+    n: NodeId,
+    p: NodeId,
+    y: TypeId,
+) -> Result<(Record, TypeId), Refusal>
     ensures { Types m.old c m.new result (Rattle.rules.specs.Rules.returned n.0 p.0 y.0) }
 {
     let x = c.output;
@@ -428,28 +437,37 @@ pub fn returned(m: &mut [u16], c: Record, n: NodeId, p: NodeId, y: TypeId) -> Ty
 }
 
 // `typeck_local` without init: a new variable without a type.
-pub fn let_without_init(m: &mut [u16], c: Record, n: NodeId, t: MaybeType) -> Ruled
+pub fn let_without_init(
+    m: &mut [u16],
+    c: Record,
+    n: NodeId,
+    t: Option<TypeId>,
+) -> Result<Record, Refusal>
     ensures { Rules m.old c m.new result (let_without_init n.0 t) }
 {
     match t {
-        MaybeType::Of(x) => {
+        Some(x) => {
             record::set_extra(m, n, Extra::Local(x));
             record::set_node_type(m, n, x);
-            Ruled::Done(c)
+            Ok(c)
         }
-        MaybeType::Absent => {
-            let r = running::new_infer_var(m, c, Kind::Regular, Origin::Node(n));
-            let d = r.record;
-            let x = r.ty;
-            record::set_node_type(m, n, x);
-            Ruled::Done(d)
+        None => {
+            let r = running::new_infer_var(m, c, Kind::Regular, Some(n));
+            record::set_node_type(m, n, r.ty);
+            Ok(r.record)
         }
     }
 }
 
 // A let's init against its declared type.
-fn let_declared(m: &mut [u16], c: Record, n: NodeId, x: TypeId, y: TypeId) -> Ruled
-    ensures { Rules m.old c m.new result (let_with_init n.0 (type.Of x) y.0) }
+fn let_declared(
+    m: &mut [u16],
+    c: Record,
+    n: NodeId,
+    x: TypeId,
+    y: TypeId,
+) -> Result<Record, Refusal>
+    ensures { Rules m.old c m.new result (let_with_init n.0 (Some x) y.0) }
 {
     match running::equate(
         m,
@@ -459,91 +477,77 @@ fn let_declared(m: &mut [u16], c: Record, n: NodeId, x: TypeId, y: TypeId) -> Ru
         y,
         mismatch(ErrorKind::TypeMismatch, Span::Node(n), x, y, 0),
     ) {
-        Equated::Met(d) => {
+        Equated::Met(d) | Equated::Failed(d) => {
             record::set_extra(m, n, Extra::Local(y));
             record::set_node_type(m, n, x);
-            Ruled::Done(d)
+            Ok(d)
         }
-        Equated::Failed(d) => {
-            record::set_extra(m, n, Extra::Local(y));
-            record::set_node_type(m, n, x);
-            Ruled::Done(d)
-        }
-        Equated::Refused(k, d) => Ruled::Refused(k, d, n),
+        Equated::Refused(k, d) => Err(Refusal {
+            number: k,
+            record: d,
+            node: n,
+        }),
     }
 }
 
 // `typeck_local` with an init of the type y.
-pub fn let_with_init(m: &mut [u16], c: Record, n: NodeId, t: MaybeType, y: TypeId) -> Ruled
+pub fn let_with_init(
+    m: &mut [u16],
+    c: Record,
+    n: NodeId,
+    t: Option<TypeId>,
+    y: TypeId,
+) -> Result<Record, Refusal>
     ensures { Rules m.old c m.new result (let_with_init n.0 t y.0) }
 {
     match t {
-        MaybeType::Of(x) => let_declared(m, c, n, x, y),
-        MaybeType::Absent => {
+        Some(x) => let_declared(m, c, n, x, y),
+        None => {
             record::set_extra(m, n, Extra::Local(y));
             record::set_node_type(m, n, y);
-            Ruled::Done(c)
+            Ok(c)
         }
     }
 }
 
 // ── calls ──
 
-// The callee and its output, or an error, or the record as it was.
-#[derive(Clone, Copy)]
-pub enum Called {
-    Sig(Callee, TypeId),
-    Not(Record),
-}
-
 // `ExprKind::Call`, by the callee's raw type.
-pub fn callee(rows: &[u16], cells: &[u16], m: &mut [u16], c: Record, n: NodeId, x: TypeId) -> Called
-    ensures { Calls m.old c m.new result (callee_of rows.now cells.now n.0 x.0) }
+pub fn callee(
+    body: Body<'_>,
+    m: &mut [u16],
+    c: Record,
+    n: NodeId,
+    x: TypeId,
+) -> Result<(Callee, TypeId), Record>
+    ensures { Calls m.old c m.new result (callee_of body.entry.rows.now body.entry.cells.now n.0 x.0) }
 {
-    let d = c.counts;
-    let h = type_table::head(m, d, x);
-    if h == HEAD_FN_DEF {
-        let f = type_table::def_of(m, d, x);
-        return Called::Sig(Callee::Def(f), nodes::output(rows, cells, f));
+    match type_table::head(m, c.counts, x) {
+        HEAD_FN_DEF => {
+            let f = type_table::def_of(m, c.counts, x);
+            Ok((Callee::Def(f), body.output(f)))
+        }
+        HEAD_LAMBDA | HEAD_PARAM => Ok((Callee::Type(x), type_table::output(m, c.counts, x))),
+        HEAD_ERROR => Err(c),
+        _ => Err(own_error(m, c, ErrorKind::CallingNotFn, Span::Node(n), x.0, 0)),
     }
-    if h == HEAD_LAMBDA {
-        return Called::Sig(Callee::Type(x), type_table::output(m, d, x));
-    }
-    if h == HEAD_PARAM {
-        return Called::Sig(Callee::Type(x), type_table::output(m, d, x));
-    }
-    if h == HEAD_ERROR {
-        return Called::Not(c);
-    }
-    let a = x.0;
-    let r = own_error(m, c, ErrorKind::CallingNotFn, Span::Node(n), a, 0);
-    Called::Not(r)
 }
 
 // `verify_arguments_for_call`: the amounts first.
-pub fn amounts(
-    rows: &[u16],
-    cells: &[u16],
-    m: &mut [u16],
-    c: Record,
-    p: Span,
-    f: Callee,
-    given: u16,
-) -> Record
-    ensures { Runs m.old c m.new result (Rattle.rules.specs.Rules.amounts rows.now cells.now p f given) tt }
+pub fn amounts(body: Body<'_>, m: &mut [u16], c: Record, p: Span, f: Callee, given: u16) -> Record
+    ensures { Runs m.old c m.new result (Rattle.rules.specs.Rules.amounts body.entry.rows.now body.entry.cells.now p f given) tt }
 {
-    let d = c.counts;
-    let k = nodes::input_count(m, d, rows, cells, f);
+    let k = body.input_count(m, c.counts, f);
     if k == given {
-        return c;
+        c
+    } else {
+        own_error(m, c, ErrorKind::WrongArgumentAmnt, p, given, k)
     }
-    own_error(m, c, ErrorKind::WrongArgumentAmnt, p, given, k)
 }
 
 // The argument i, of the type y, against the input i, if there is one.
 pub fn argument(
-    rows: &[u16],
-    cells: &[u16],
+    body: Body<'_>,
     m: &mut [u16],
     c: Record,
     n: NodeId,
@@ -551,12 +555,11 @@ pub fn argument(
     f: Callee,
     i: u16,
     y: TypeId,
-) -> Ruled
-    ensures { Rules m.old c m.new result (Rattle.rules.specs.Rules.argument rows.now cells.now n.0 p f i y.0) }
+) -> Result<Record, Refusal>
+    ensures { Rules m.old c m.new result (Rattle.rules.specs.Rules.argument body.entry.rows.now body.entry.cells.now n.0 p f i y.0) }
 {
-    let d = c.counts;
-    match nodes::input(m, d, rows, cells, f, i) {
-        MaybeType::Of(x) => equate_on(
+    match body.input(m, c.counts, f, i) {
+        Some(x) => equate_on(
             m,
             c,
             n,
@@ -564,110 +567,81 @@ pub fn argument(
             y,
             mismatch(ErrorKind::WrongArgumentTy, p, x, y, i),
         ),
-        MaybeType::Absent => Ruled::Done(c),
+        None => Ok(c),
     }
-}
-
-// The method that a receiver of the type x has, or an error.
-#[derive(Clone, Copy)]
-pub enum Method {
-    Of(DefId),
-    Not(Record),
 }
 
 // `typeck_expr_meth_call`: the method of a name for a receiver of the type x.
 pub fn method_of(
-    rows: &[u16],
-    cells: &[u16],
+    body: Body<'_>,
     m: &mut [u16],
     c: Record,
-    binds: u16,
     n: NodeId,
     e: NodeId,
     x: TypeId,
     name: u16,
-) -> Method
-    ensures { Finds m.old c m.new result (method_of (tables rows.now cells.now binds) n.0 e.0 x.0 name) }
+) -> Result<DefId, Record>
+    ensures { Finds m.old c m.new result (method_of (lent body.entry) n.0 e.0 x.0 name) }
 {
-    let a = x.0;
-    if a == ERR {
-        return Method::Not(c);
+    if x.0 == ERR {
+        return Err(c);
     }
-    let d = c.counts;
-    match nodes::method(m, d, rows, cells, binds, x, name) {
-        MaybeDef::Of(f) => {
+    match body.method(m, c.counts, x, name) {
+        Some(f) => {
             record::set_extra(m, n, Extra::Method(f));
-            Method::Of(f)
+            Ok(f)
         }
-        MaybeDef::Absent => {
-            let r = own_error(m, c, ErrorKind::MethodNotFound, Span::Node(e), a, name);
-            Method::Not(r)
-        }
+        None => Err(own_error(m, c, ErrorKind::MethodNotFound, Span::Node(e), x.0, name)),
     }
 }
 
 // ── lambdas ──
 
 // The param n of a lambda: its declared type, or a new variable.
-fn lambda_param(rows: &[u16], cells: &[u16], m: &mut [u16], c: Record, n: NodeId) -> Record
-    ensures { Runs m.old c m.new result (lambda_param n.0 (declared_at rows.now cells.now n.0)) tt }
+fn lambda_param(body: Body<'_>, m: &mut [u16], c: Record, n: NodeId) -> Record
+    ensures { Runs m.old c m.new result (lambda_param n.0 (declared_at body.entry.rows.now body.entry.cells.now n.0)) tt }
 {
-    match nodes::declared(rows, cells, n) {
-        MaybeType::Of(x) => {
+    match body.declared(n) {
+        Some(x) => {
             record::set_node_type(m, n, x);
             c
         }
-        MaybeType::Absent => {
-            let r = running::new_infer_var(m, c, Kind::Regular, Origin::Node(n));
-            let d = r.record;
-            let x = r.ty;
-            record::set_node_type(m, n, x);
-            d
+        None => {
+            let r = running::new_infer_var(m, c, Kind::Regular, Some(n));
+            record::set_node_type(m, n, r.ty);
+            r.record
         }
     }
 }
 
 // `typeck_lambda`: its params, in order.
-pub fn lambda_params(rows: &[u16], cells: &[u16], m: &mut [u16], c: Record, t: Items) -> Record
-    ensures { Runs m.old c m.new result (lambda_params rows.now cells.now t) tt }
+pub fn lambda_params(body: Body<'_>, m: &mut [u16], c: Record, t: Items) -> Record
+    ensures { Runs m.old c m.new result (lambda_params body.entry.rows.now body.entry.cells.now t) tt }
 {
-    let k = t.count;
     let mut d = c;
-    let mut i = 0;
-    while i < k {
-        let n = nodes::item(cells, t, i);
-        d = lambda_param(rows, cells, m, d, NodeId(n));
-        i += 1;
+    for i in 0..t.count {
+        d = lambda_param(body, m, d, NodeId(body.item(t, i)));
     }
     d
 }
 
 // The output of a lambda: a variable is always drawn, even with a declared output.
-pub fn lambda_output(m: &mut [u16], c: Record, n: NodeId, t: MaybeType) -> Given
+pub fn lambda_output(m: &mut [u16], c: Record, n: NodeId, t: Option<TypeId>) -> Given
     ensures { Gives m.old c m.new result (lambda_output n.0 t) }
 {
-    let r = running::new_infer_var(m, c, Kind::Regular, Origin::Node(n));
-    let d = r.record;
-    let v = r.ty;
+    let r = running::new_infer_var(m, c, Kind::Regular, Some(n));
     match t {
-        MaybeType::Of(x) => Given { record: d, ty: x },
-        MaybeType::Absent => Given { record: d, ty: v },
+        Some(x) => Given {
+            record: r.record,
+            ty: x,
+        },
+        None => r,
     }
-}
-
-// The type of a lambda, of its output and the types of its params.
-fn lambda_type(cells: &[u16], m: &mut [u16], c: Record, n: NodeId, o: TypeId, t: Items) -> Typed
-    ensures { Types m.old c m.new result (make_lambda n.0 o.0 (items_of cells.now t)) }
-{
-    let r = running::lambda(cells, m, c, n, o, t);
-    let d = r.record;
-    let x = r.ty;
-    Typed::Type(d, x)
 }
 
 // The output of a lambda against the type y of its body b; then its type is made.
 pub fn lambda(
-    cells: &[u16],
+    body: Body<'_>,
     m: &mut [u16],
     c: Record,
     n: NodeId,
@@ -675,164 +649,157 @@ pub fn lambda(
     o: TypeId,
     y: TypeId,
     t: Items,
-) -> Typed
-    ensures { Types m.old c m.new result (Rattle.rules.specs.Rules.lambda cells.now n.0 b.0 o.0 y.0 t) }
+) -> Result<(Record, TypeId), Refusal>
+    ensures { Types m.old c m.new result (Rattle.rules.specs.Rules.lambda body.entry.cells.now n.0 b.0 o.0 y.0 t) }
 {
-    match equate_on(
+    let d = equate_on(
         m,
         c,
         n,
         o,
         y,
         mismatch(ErrorKind::TypeMismatch, Span::Node(b), o, y, 0),
-    ) {
-        Ruled::Done(d) => lambda_type(cells, m, d, n, o, t),
-        Ruled::Refused(k, d, p) => Typed::Refused(k, d, p),
-    }
+    )?;
+    let r = running::lambda(body, m, d, n, o, t);
+    Ok((r.record, r.ty))
 }
 
 // ── paths ──
 
-fn fn_type(m: &mut [u16], c: Record, f: DefId) -> Typed
+fn fn_type(m: &mut [u16], c: Record, f: DefId) -> Result<(Record, TypeId), Refusal>
     ensures { Types m.old c m.new result (fn_def_lem f.0) }
 {
     let r = running::fn_def(m, c, f);
-    let d = r.record;
-    let t = r.ty;
-    Typed::Type(d, t)
+    Ok((r.record, r.ty))
 }
 
 // `type_res`: 10 for an `o`, 11 for a local that is not yet typed.
-fn type_res(m: &mut [u16], c: Record, n: NodeId, r: Res) -> Typed
+fn type_res(m: &mut [u16], c: Record, n: NodeId, r: Res) -> Result<(Record, TypeId), Refusal>
     ensures { Types m.old c m.new result (type_res n.0 r) }
 {
     match r {
         Res::Local(l) => match record::node_type(m, l) {
-            NodeType::Typed(t) => Typed::Type(c, t),
-            NodeType::Untyped => Typed::Refused(11, c, n),
+            Some(t) => Ok((c, t)),
+            None => Err(Refusal {
+                number: 11,
+                record: c,
+                node: n,
+            }),
         },
-        Res::Fn(d) => fn_type(m, c, d),
-        Res::Ctor(d) => fn_type(m, c, d),
+        Res::Fn(d) | Res::Ctor(d) => fn_type(m, c, d),
         Res::Inst(k) => {
             let g = running::instance(m, c, k);
-            let d = g.record;
-            let t = g.ty;
-            Typed::Type(d, t)
+            Ok((g.record, g.ty))
         }
-        Res::Error => Typed::Type(c, TypeId(ERR)),
-        Res::Other => Typed::Refused(10, c, n),
+        Res::Error => Ok((c, TypeId(ERR))),
+        Res::Other => Err(Refusal {
+            number: 10,
+            record: c,
+            node: n,
+        }),
     }
 }
 
 // A path without a failed segment: what RES says.
-fn whole_path(m: &mut [u16], c: Record, n: NodeId, r: Res) -> Typed
+fn whole_path(m: &mut [u16], c: Record, n: NodeId, r: Res) -> Result<(Record, TypeId), Refusal>
     ensures { Types m.old c m.new result (whole_path n.0 r) }
 {
-    match type_res(m, c, n, r) {
-        Typed::Type(d, t) => {
-            record::set_extra(m, n, Extra::Resolved(r));
-            Typed::Type(d, t)
-        }
-        Typed::Refused(k, d, p) => Typed::Refused(k, d, p),
-    }
+    let (d, t) = type_res(m, c, n, r)?;
+    record::set_extra(m, n, Extra::Resolved(r));
+    Ok((d, t))
 }
 
 // The method of a name for the type x that a path leads to, or an error.
 fn path_method(
-    rows: &[u16],
-    cells: &[u16],
+    body: Body<'_>,
     m: &mut [u16],
     c: Record,
-    binds: u16,
     n: NodeId,
     x: TypeId,
     name: u16,
-) -> Typed
-    ensures { Types m.old c m.new result (path_found (tables rows.now cells.now binds) n.0 x.0 name) }
+) -> Result<(Record, TypeId), Refusal>
+    ensures { Types m.old c m.new result (path_found (lent body.entry) n.0 x.0 name) }
 {
-    let d = c.counts;
-    match nodes::method(m, d, rows, cells, binds, x, name) {
-        MaybeDef::Of(f) => {
+    match body.method(m, c.counts, x, name) {
+        Some(f) => {
             record::set_extra(m, n, Extra::Resolved(Res::Fn(f)));
             fn_type(m, c, f)
         }
-        MaybeDef::Absent => {
-            let a = x.0;
+        None => {
             record::set_extra(m, n, Extra::Resolved(Res::Error));
-            let r = own_error(m, c, ErrorKind::MethodNotFound, Span::Node(n), a, name);
-            Typed::Type(r, TypeId(ERR))
+            let r = own_error(m, c, ErrorKind::MethodNotFound, Span::Node(n), x.0, name);
+            Ok((r, TypeId(ERR)))
         }
     }
 }
 
 // A partly failed path of an instance: a method of its last segment's type.
 fn inst_path(
-    rows: &[u16],
-    cells: &[u16],
+    body: Body<'_>,
     m: &mut [u16],
     c: Record,
-    binds: u16,
     n: NodeId,
     resolved: u16,
     t: Items,
-) -> Typed
-    ensures { Types m.old c m.new result (inst_path (tables rows.now cells.now binds) n.0 resolved t) }
+) -> Result<(Record, TypeId), Refusal>
+    ensures { Types m.old c m.new result (inst_path (lent body.entry) n.0 resolved t) }
 {
-    let k = t.count;
-    if resolved < k as u16 {
-        let name = nodes::segment_name(cells, t, resolved as u8);
-        let last = nodes::segment_res(cells, t, k - 1);
-        return match type_res(m, c, n, last) {
-            Typed::Type(d, x) => path_method(rows, cells, m, d, binds, n, x, name),
-            Typed::Refused(a, d, p) => Typed::Refused(a, d, p),
-        };
+    if resolved >= u16::from(t.count) {
+        return Err(Refusal {
+            number: 10,
+            record: c,
+            node: n,
+        });
     }
-    Typed::Refused(10, c, n)
+    let name = body.segment_name(t, resolved as u8);
+    let last = body.segment_res(t, t.count - 1);
+    let (d, x) = type_res(m, c, n, last)?;
+    path_method(body, m, d, n, x, name)
 }
 
 // A partly failed path.
 fn failed_path(
-    rows: &[u16],
-    cells: &[u16],
+    body: Body<'_>,
     m: &mut [u16],
     c: Record,
-    binds: u16,
     n: NodeId,
     r: Res,
     resolved: u16,
     t: Items,
-) -> Typed
-    ensures { Types m.old c m.new result (failed_path (tables rows.now cells.now binds) n.0 r resolved t) }
+) -> Result<(Record, TypeId), Refusal>
+    ensures { Types m.old c m.new result (failed_path (lent body.entry) n.0 r resolved t) }
 {
     match r {
-        Res::Local(l) => Typed::Refused(10, c, n),
-        Res::Fn(d) => Typed::Refused(10, c, n),
-        Res::Ctor(d) => Typed::Refused(10, c, n),
-        Res::Inst(k) => inst_path(rows, cells, m, c, binds, n, resolved, t),
+        Res::Inst(_) => inst_path(body, m, c, n, resolved, t),
         Res::Error => {
             record::set_extra(m, n, Extra::Resolved(Res::Error));
-            Typed::Type(c, TypeId(ERR))
+            Ok((c, TypeId(ERR)))
         }
-        Res::Other => Typed::Refused(10, c, n),
+        Res::Local(_) | Res::Fn(_) | Res::Ctor(_) | Res::Other => {
+            Err(Refusal {
+                number: 10,
+                record: c,
+                node: n,
+            })
+        }
     }
 }
 
 // `typeck_expr_path`.
 pub fn path(
-    rows: &[u16],
-    cells: &[u16],
+    body: Body<'_>,
     m: &mut [u16],
     c: Record,
-    binds: u16,
     n: NodeId,
     r: Res,
     resolved: u16,
     t: Items,
-) -> Typed
-    ensures { Types m.old c m.new result (Rattle.rules.specs.Rules.path (tables rows.now cells.now binds) n.0 r resolved t) }
+) -> Result<(Record, TypeId), Refusal>
+    ensures { Types m.old c m.new result (Rattle.rules.specs.Rules.path (lent body.entry) n.0 r resolved t) }
 {
-    if nodes::is_partly_failed(cells, t) {
-        return failed_path(rows, cells, m, c, binds, n, r, resolved, t);
+    if body.is_partly_failed(t) {
+        failed_path(body, m, c, n, r, resolved, t)
+    } else {
+        whole_path(m, c, n, r)
     }
-    whole_path(m, c, n, r)
 }

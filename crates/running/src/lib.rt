@@ -13,18 +13,17 @@ ghost use Rattle.nodes.specs.Nodes.{items_of};
 ghost use Rattle.record.specs.Steps.{new_infer_var, array_of, ref_to_lem, fn_def_lem, make_lambda, make_function, error, equation};
 ghost use Rattle.record.specs.Encodes.{Runs, Gives, Equates};
 
-use nodes::Items;
+use nodes::{Body, Items};
 use record::{Equated, Given, Record, TypingError};
-use type_table::{DefId, InstId, Kind, NodeId, Origin, TypeId};
+use type_table::{DefId, InstId, Kind, NodeId, TypeId};
 
 // ── the record lent ──
 
 // One variable more, with its type.
-pub fn draw(m: &mut [u16], c: &mut Record, k: Kind, o: Origin) -> TypeId
+pub fn draw(m: &mut [u16], c: &mut Record, k: Kind, o: Option<NodeId>) -> TypeId
     ensures { Runs m.old c.old m.new c.new (new_infer_var (kind_of (kind_code k)) (numbered (origin_number o))) result.0 }
 {
-    let d = *c;
-    let r = record::new_infer_var(m, d, k, o);
+    let r = record::new_infer_var(m, *c, k, o);
     *c = r.record;
     r.ty
 }
@@ -33,8 +32,7 @@ pub fn draw(m: &mut [u16], c: &mut Record, k: Kind, o: Origin) -> TypeId
 pub fn append_array(m: &mut [u16], c: &mut Record, e: TypeId) -> TypeId
     ensures { Runs m.old c.old m.new c.new (array_of e.0) result.0 }
 {
-    let d = *c;
-    let r = record::array_of(m, d, e);
+    let r = record::array_of(m, *c, e);
     *c = r.record;
     r.ty
 }
@@ -43,8 +41,7 @@ pub fn append_array(m: &mut [u16], c: &mut Record, e: TypeId) -> TypeId
 pub fn append_ref(m: &mut [u16], c: &mut Record, e: TypeId) -> TypeId
     ensures { Runs m.old c.old m.new c.new (ref_to_lem e.0) result.0 }
 {
-    let d = *c;
-    let r = record::ref_to(m, d, e);
+    let r = record::ref_to(m, *c, e);
     *c = r.record;
     r.ty
 }
@@ -53,8 +50,7 @@ pub fn append_ref(m: &mut [u16], c: &mut Record, e: TypeId) -> TypeId
 pub fn append_fn_def(m: &mut [u16], c: &mut Record, f: DefId) -> TypeId
     ensures { Runs m.old c.old m.new c.new (fn_def_lem f.0) result.0 }
 {
-    let d = *c;
-    let r = record::fn_def(m, d, f);
+    let r = record::fn_def(m, *c, f);
     *c = r.record;
     r.ty
 }
@@ -63,42 +59,39 @@ pub fn append_fn_def(m: &mut [u16], c: &mut Record, f: DefId) -> TypeId
 pub fn append_instance(m: &mut [u16], c: &mut Record, k: InstId) -> TypeId
     ensures { Runs m.old c.old m.new c.new (Rattle.record.specs.Steps.instance k.0) result.0 }
 {
-    let d = *c;
-    let r = record::instance(m, d, k);
+    let r = record::instance(m, *c, k);
     *c = r.record;
     r.ty
 }
 
 // The type of the lambda of a node, with the types of its params as inputs: one type more. If the output is no type, the answer is row 0.
 pub fn append_lambda(
-    cells: &[u16],
+    body: Body<'_>,
     m: &mut [u16],
     c: &mut Record,
     n: NodeId,
     o: TypeId,
     p: Items,
 ) -> TypeId
-    ensures { Runs m.old c.old m.new c.new (make_lambda n.0 o.0 (items_of cells.now p)) result.0 }
+    ensures { Runs m.old c.old m.new c.new (make_lambda n.0 o.0 (items_of body.entry.cells.now p)) result.0 }
 {
-    let d = *c;
-    let r = record::lambda(cells, m, d, n, o, p);
+    let r = record::lambda(body, m, *c, n, o, p);
     *c = r.record;
     r.ty
 }
 
 // The type of functions of a SPAN: one type more. If the output is no type, the answer is row 0.
 pub fn append_function(
-    cells: &[u16],
+    body: Body<'_>,
     m: &mut [u16],
     c: &mut Record,
     span: u16,
     o: TypeId,
     p: Items,
 ) -> TypeId
-    ensures { Runs m.old c.old m.new c.new (make_function span o.0 (items_of cells.now p)) result.0 }
+    ensures { Runs m.old c.old m.new c.new (make_function span o.0 (items_of body.entry.cells.now p)) result.0 }
 {
-    let d = *c;
-    let r = record::function(cells, m, d, span, o, p);
+    let r = record::function(body, m, *c, span, o, p);
     *c = r.record;
     r.ty
 }
@@ -107,20 +100,18 @@ pub fn append_function(
 pub fn append_error(m: &mut [u16], c: &mut Record, e: TypingError)
     ensures { Runs m.old c.old m.new c.new (error e) tt }
 {
-    let d = *c;
-    let r = record::emit(m, d, e);
-    *c = r;
+    *c = record::emit(m, *c, e);
 }
 
 // ── with plain parameters ──
 
 // `new_infer_var`.
-pub fn new_infer_var(m: &mut [u16], c: Record, k: Kind, o: Origin) -> Given
+pub fn new_infer_var(m: &mut [u16], c: Record, k: Kind, o: Option<NodeId>) -> Given
     ensures { Gives m.old c m.new result (new_infer_var (kind_of (kind_code k)) (numbered (origin_number o))) }
 {
     let mut d = c;
-    let t = draw(m, &mut d, k, o);
-    Given { record: d, ty: t }
+    let ty = draw(m, &mut d, k, o);
+    Given { record: d, ty }
 }
 
 // The type array of e.
@@ -128,8 +119,8 @@ pub fn array_of(m: &mut [u16], c: Record, e: TypeId) -> Given
     ensures { Gives m.old c m.new result (array_of e.0) }
 {
     let mut d = c;
-    let t = append_array(m, &mut d, e);
-    Given { record: d, ty: t }
+    let ty = append_array(m, &mut d, e);
+    Given { record: d, ty }
 }
 
 // The type reference to e.
@@ -137,8 +128,8 @@ pub fn ref_to(m: &mut [u16], c: Record, e: TypeId) -> Given
     ensures { Gives m.old c m.new result (ref_to_lem e.0) }
 {
     let mut d = c;
-    let t = append_ref(m, &mut d, e);
-    Given { record: d, ty: t }
+    let ty = append_ref(m, &mut d, e);
+    Given { record: d, ty }
 }
 
 // The type of a definition.
@@ -146,8 +137,8 @@ pub fn fn_def(m: &mut [u16], c: Record, f: DefId) -> Given
     ensures { Gives m.old c m.new result (fn_def_lem f.0) }
 {
     let mut d = c;
-    let t = append_fn_def(m, &mut d, f);
-    Given { record: d, ty: t }
+    let ty = append_fn_def(m, &mut d, f);
+    Given { record: d, ty }
 }
 
 // The type of an instance.
@@ -155,26 +146,26 @@ pub fn instance(m: &mut [u16], c: Record, k: InstId) -> Given
     ensures { Gives m.old c m.new result (Rattle.record.specs.Steps.instance k.0) }
 {
     let mut d = c;
-    let t = append_instance(m, &mut d, k);
-    Given { record: d, ty: t }
+    let ty = append_instance(m, &mut d, k);
+    Given { record: d, ty }
 }
 
 // The type of the lambda of a node, with the types of its params as inputs. If the output is no type, the answer is row 0.
-pub fn lambda(cells: &[u16], m: &mut [u16], c: Record, n: NodeId, o: TypeId, p: Items) -> Given
-    ensures { Gives m.old c m.new result (make_lambda n.0 o.0 (items_of cells.now p)) }
+pub fn lambda(body: Body<'_>, m: &mut [u16], c: Record, n: NodeId, o: TypeId, p: Items) -> Given
+    ensures { Gives m.old c m.new result (make_lambda n.0 o.0 (items_of body.entry.cells.now p)) }
 {
     let mut d = c;
-    let t = append_lambda(cells, m, &mut d, n, o, p);
-    Given { record: d, ty: t }
+    let ty = append_lambda(body, m, &mut d, n, o, p);
+    Given { record: d, ty }
 }
 
 // The type of functions of a SPAN. If the output is no type, the answer is row 0.
-pub fn function(cells: &[u16], m: &mut [u16], c: Record, span: u16, o: TypeId, p: Items) -> Given
-    ensures { Gives m.old c m.new result (make_function span o.0 (items_of cells.now p)) }
+pub fn function(body: Body<'_>, m: &mut [u16], c: Record, span: u16, o: TypeId, p: Items) -> Given
+    ensures { Gives m.old c m.new result (make_function span o.0 (items_of body.entry.cells.now p)) }
 {
     let mut d = c;
-    let t = append_function(cells, m, &mut d, span, o, p);
-    Given { record: d, ty: t }
+    let ty = append_function(body, m, &mut d, span, o, p);
+    Given { record: d, ty }
 }
 
 // One error more. Without room nothing changes.
@@ -192,21 +183,7 @@ pub fn emit(m: &mut [u16], c: Record, e: TypingError) -> Record
 fn caused(e: TypingError) -> TypingError
     ensures { result ≡ Rattle.record.specs.Steps.caused e mismatch }
 {
-    let k = e.kind;
-    let at = e.at;
-    let second = e.second;
-    let a = e.a;
-    let b = e.b;
-    let third = e.c;
-    TypingError {
-        kind: k,
-        cause: 1,
-        at: at,
-        second: second,
-        a: a,
-        b: b,
-        c: third,
-    }
+    TypingError { cause: 1, ..e }
 }
 
 // Raises, in the rule of the node n, the equation of the rows x, expected, and y, got; a mismatch emits the error e.
@@ -216,9 +193,8 @@ pub fn equate(m: &mut [u16], c: Record, n: NodeId, x: TypeId, y: TypeId, e: Typi
     match record::raise(m, c, n, x, y) {
         Equated::Met(d) => Equated::Met(d),
         Equated::Failed(d) => {
-            let f = caused(e);
-            let r = emit(m, d, f);
-            Equated::Failed(r)
+            let error = caused(e);
+            Equated::Failed(emit(m, d, error))
         }
         Equated::Refused(k, d) => Equated::Refused(k, d),
     }

@@ -3,6 +3,8 @@
 // is read in parts, and one part and one sample of it are kept. Proved safe and to end; what it answers is tested by the programs.
 #![tactic(auto)]
 
+ghost use Rattle.std.specs.Prelude.{◌≡◌, ◌<◌, ◌≤◌, true, length};
+
 // The bytes that are read at a time.
 pub const PART: usize = 65536;
 
@@ -31,7 +33,6 @@ struct Line {
     bytes: usize,
     // The input ended with it.
     last: bool,
-    place: Place,
 }
 
 // A sample, and where the input goes on.
@@ -44,177 +45,120 @@ pub struct Cut {
     pub place: Place,
 }
 
-// What comes next in the input.
-#[derive(Clone, Copy)]
-pub enum Next {
-    Sample(Cut),
-    End,
-}
-
 // The start of the input.
 pub fn start() -> Place {
     Place { read: 0, taken: 0 }
 }
 
-// The place, with the next part of the input where the present one is taken; it is empty at the end of the input.
-fn refilled(rt: &impl Input, part: &mut Part, p: Place) -> Place {
-    if p.taken < p.read {
-        return p;
+// The next byte of the input, if it does not end here. Where the present part is taken, the next one is read.
+fn next_byte(rt: &impl Input, part: &mut Part, place: &mut Place) -> Option<u8> {
+    if place.read <= place.taken {
+        place.read = body_input::read_full(rt, part);
+        place.taken = 0;
     }
-    let n = body_input::read_full(rt, part);
-    Place { read: n, taken: 0 }
+    let byte = *part.get(place.taken..place.read)?.first()?;
+    place.taken += 1;
+    Some(byte)
 }
 
-// The place behind the next byte of the part.
-fn behind(p: Place) -> Place {
-    let i = p.taken;
-    if i < p.read {
-        return Place {
-            read: p.read,
-            taken: i + 1,
-        };
-    }
-    p
-}
-
-// The byte at a place of a part; a line feed where it has no such place.
-fn byte_at(part: &Part, i: usize) -> u8 {
-    if i < PART {
-        return part[i];
-    }
-    b'\n'
-}
-
-// One byte more of a sample, where there is room; its bytes then.
-fn push(sample: &mut Sample, n: usize, b: u8) -> usize {
-    if n < SAMPLE {
-        sample[n] = b;
-        return n + 1;
-    }
-    n
-}
-
-// The next line of the input, behind the first bytes of a sample. Nothing says that it ends, so its bytes are counted down from a number
-// that no run uses up.
-fn take_line(rt: &impl Input, part: &mut Part, sample: &mut Sample, from: usize, p: Place) -> Line {
-    let mut n = from;
-    let mut now = p;
-    let mut left = u64::MAX;
-    while left > 0 {
-        now = refilled(rt, part, now);
-        let i = now.taken;
-        if now.read <= i {
-            return Line {
-                bytes: n,
-                last: true,
-                place: now,
-            };
+// The next line of the input, behind the first bytes of a sample. Nothing says that it ends, so its bytes are counted, up to a number that
+// no run uses up.
+fn take_line(
+    rt: &impl Input,
+    part: &mut Part,
+    place: &mut Place,
+    sample: &mut Sample,
+    from: usize,
+) -> Line {
+    let mut bytes = from;
+    for _ in 0..u64::MAX {
+        match next_byte(rt, part, place) {
+            None => return Line { bytes, last: true },
+            Some(b'\n') => return Line { bytes, last: false },
+            Some(b) => bytes = body_text::push(sample, bytes, b),
         }
-        now = behind(now);
-        let b = byte_at(part, i);
-        if b == b'\n' {
-            return Line {
-                bytes: n,
-                last: false,
-                place: now,
-            };
-        }
-        n = push(sample, n, b);
-        left -= 1;
     }
-    Line {
-        bytes: n,
-        last: true,
-        place: now,
-    }
+    Line { bytes, last: true }
 }
 
 // The first n bytes of a sample are its first line, and neither a comment nor empty.
 fn begins(s: &[u8], n: usize) -> bool {
-    if n <= s.len() {
-        return body_text::has_body(&s[0..n]);
-    }
-    false
+    n <= s.len() && body_text::has_body(&s[..n])
 }
 
-// The sample whose first line is there; at the end of the input its second one is empty.
-fn with_second(
-    rt: &impl Input,
-    part: &mut Part,
-    sample: &mut Sample,
-    first: usize,
-    p: Place,
-) -> Next {
-    let n = push(sample, first, b'\n');
-    let l = take_line(rt, part, sample, n, p);
-    let q = l.place;
-    Next::Sample(Cut {
-        bytes: l.bytes,
-        first: first,
-        place: q,
-    })
-}
-
-// The next sample of the input, behind the comments and empty lines before it. Their lines are counted down as bytes are.
-pub fn next_sample(rt: &impl Input, part: &mut Part, sample: &mut Sample, p: Place) -> Next {
-    let mut now = p;
-    let mut left = u64::MAX;
-    while left > 0 {
-        let l = take_line(rt, part, sample, 0, now);
-        let n = l.bytes;
-        let q = l.place;
-        if begins(sample, n) {
-            return with_second(rt, part, sample, n, q);
+// The next sample of the input, behind the comments and empty lines before it; none at the end of the input. Where the input ends with
+// its first line, its second one is empty. The lines are counted as bytes are.
+pub fn next_sample(rt: &impl Input, part: &mut Part, sample: &mut Sample, p: Place) -> Option<Cut> {
+    let mut place = p;
+    for _ in 0..u64::MAX {
+        let line = take_line(rt, part, &mut place, sample, 0);
+        if begins(sample, line.bytes) {
+            let first = line.bytes;
+            let from = body_text::push(sample, first, b'\n');
+            let bytes = take_line(rt, part, &mut place, sample, from).bytes;
+            return Some(Cut {
+                bytes,
+                first,
+                place,
+            });
         }
-        if l.last {
-            return Next::End;
+        if line.last {
+            return None;
         }
-        now = q;
-        left -= 1;
     }
-    Next::End
+    None
 }
 
 // ── what is right ──
 
+// Every byte or cell from the place f on is x.
+pub fn filled<T: PartialEq>(s: &[T], f: usize, x: &T) -> bool
+    ensures { length s.now ≤ f → result ≡ true }
+{
+    s.iter().skip(f).all(|c| c == x)
+}
+
 // Every byte from the place f on is x.
 pub fn bytes_filled(s: &[u8], f: usize, x: u8) -> bool {
-    let mut i = f;
-    while i < s.len() {
-        if s[i] != x {
-            return false;
-        }
-        i += 1;
+    filled(s, f, &x)
+}
+
+// A hash with one number more.
+fn mix(h: u32, x: u16) -> u32
+    ensures { result < 4294967291 }
+{
+    ((u64::from(h) * 31 + u64::from(x)) % 4294967291) as u32
+}
+
+// A hash with all numbers of a table: 0 stays 0 as long as there are zeros alone.
+pub fn hash(h: u32, table: &[u16]) -> u32
+    ensures { h < 4294967291 → result < 4294967291 }
+{
+    let mut hash = h;
+    for x in table {
+        hash = mix(hash, *x);
     }
-    true
+    hash
 }
 
 // Names a sample and what is wrong in it, if it is; whether it is right. What standard output does not take is lost.
 pub fn told(rt: &impl Print, name: &[u8], what: &[u8], good: bool) -> bool {
-    if good {
-        return true;
+    if !good {
+        let _ = rt.write_all(name);
+        let _ = rt.write_all(b": ");
+        let _ = rt.write_all(what);
+        let _ = rt.write_all(b"\n");
     }
-    let _ = rt.write_all(name);
-    let _ = rt.write_all(b": ");
-    let _ = rt.write_all(what);
-    let _ = rt.write_all(b"\n");
-    false
+    good
 }
 
 // A count with one more that is right.
 pub fn counted(n: u64, good: bool) -> u64 {
-    if good {
-        if n < u64::MAX {
-            return n + 1;
-        }
-    }
-    n
+    n.saturating_add(u64::from(good))
 }
 
 // A line with a count. What standard output does not take is lost.
 pub fn put_count(rt: &impl Print, what: &[u8], n: u64) {
     let _ = rt.write_all(what);
-    let _ = rt.write_all(b"=");
-    let _ = rt.print(n);
-    let _ = rt.write_all(b"\n");
+    let _ = println!(rt; "={n}");
 }

@@ -1,4 +1,5 @@
 -- The search: what each return shows, and why the queue answers as `leads` does, of any rows and bindings.
+use Rattle.std.specs.Prelude.{None, Option as Option·R, Some}
 use mathlib.Core.Path.{◌≡◌, refl, sym, ap, ◌∙◌, subst}
 use mathlib.Core.Logic.{◌≢◌, ◌⊎◌, inl, inr}
 use mathlib.Core.List.{List, [], ◌∷◌}
@@ -6,29 +7,26 @@ use mathlib.Core.Option.{Option, none, some}
 use mathlib.Core.Bool.{Bool, true, false, ◌||◌, cond}
 use Prim.Native.Nat.{ℕ, suc, zero, ◌+◌, ◌-◌, ◌≤◌, ◌<◌}
 use native.Mathlib.Omega.{arith}
-use native.Mathlib.Numerals.{add-one, sub-one}
+use native.Mathlib.Numerals.{add-one}
 use native.Mathlib.Decide.{ℕ_discrete, dec_lt}
 use lib.ListN.{get_or, set, length, length-set, replicate, length-replicate, get_or-replicate, get_or-eq_default}
 use lib.Seq.{get_or-set_same, get_or-set_other}
 use lib.Dec.{eqb, leb}
 use borrow.Author.Tests.{eq-eqb, ne_eqb, le-leb, lt-leb, leb-false}
 use Rattle.theory.specs.Rules.{row, base, nil, var, as_var, bound, succs, opt_list, is_same, any, leads, far, seek, seek_var, follow}
-use Rattle.theory.specs.Rules.{free, ring, inside, lost}
+use Rattle.theory.specs.Rules.{free, ring, inside}
 use Rattle.theory.specs.Basics.{All, all_map}
 use Rattle.type_table.specs.declared.Counts.{Counts}
 use Rattle.type_table.specs.declared.TypeId.{TypeId}
 use Rattle.type_table.specs.declared.VarId.{VarId}
 use Rattle.type_table.specs.declared.InputRange.{InputRange}
-use Rattle.type_table.specs.declared.Bound.{Bound}
-use Rattle.type_table.specs.declared.Bound.TheVariants.{To as To-as-B, Open}
 use Rattle.type_table.specs.Memory.{pick, cell, inputs_at, head_at, number_at, output_at, first_at, count_at, inputs_from, Held}
 use Rattle.type_table.specs.View.{type, variable, bound_in}
 use Rattle.search.specs.declared.Found.TheVariants.{Free, Ring, Inside, Lost}
-use Rattle.search.specs.declared.Grown.{Grown}
-use Rattle.search.specs.declared.Grown.TheVariants.{Hit, Tail}
+use Rattle.search.specs.declared.Queue.{Queue}
 use Rattle.search.specs.declared.Lead.{Lead}
 use Rattle.search.specs.declared.Lead.TheVariants.{At, End, Parts, To}
-use Rattle.search.specs.Search.{rows_in, Queue, queue, push_f, push_all, parts, binds_in, next_in, leads_in, Visited, ReachedK, Reached, LedVar, Led, Stands, seek_in, Sought}
+use Rattle.search.specs.Search.{rows_in, queue, push_f, push_all, parts, binds_in, next_in, leads_in, Visited, ReachedK, Reached, LedVar, Led, Stands, seek_in, Sought}
 use Rattle.type_table.specs.Tables.{length-rows}
 use Rattle.type_table.specs.Heads.{var_row_lem}
 use Rattle.search.specs.Bridge.{bound_open, bound_some, no_var_row, kids_row}
@@ -57,15 +55,13 @@ module _ (n : ℕ) (q : List ℕ) (t y : ℕ) where
   push_seen i h e = rw (lt-leb n y i, lt-leb 4622 y h, ne_eqb (get_or q y 0) 0 e)
 
 -- one input more of a run of inputs
-pub inputs_more : (n : ℕ) (m : List ℕ) (s u : Queue) (f k : ℕ) (y : TypeId) → 0 < k → y.0 ≡ cell m (inputs_at + f) → u ≡ push_f n s y.0 → push_all n u (inputs_from m (f + 1) (k - 1)) ≡ push_all n s (inputs_from m f k)
+pub inputs_more : (n : ℕ) (m : List ℕ) (s u : Queue) (f k j : ℕ) (y : TypeId) → k ≡ suc j → y.0 ≡ cell m (inputs_at + f) → u ≡ push_f n s y.0 → push_all n u (inputs_from m (f + 1) j) ≡ push_all n s (inputs_from m f k)
 unfolding push_all inputs_from
-inputs_more n m s u f zero y h e p = absurd (omega arith)
-inputs_more n m s u f (suc k) y h e p = rw (add-one, sub-one, ← e, ← p)
+inputs_more n m s u f k j y h e p = rw (h, add-one, ← e, ← p)
 
-pub inputs_end : (n : ℕ) (m : List ℕ) (s : Queue) (f k : ℕ) → k ≤ 0 → push_all n s (inputs_from m f k) ≡ s
+pub inputs_end : (n : ℕ) (m : List ℕ) (s : Queue) (f k : ℕ) → k ≡ 0 → push_all n s (inputs_from m f k) ≡ s
 unfolding push_all inputs_from
-inputs_end n m s f zero h = refl
-inputs_end n m s f (suc k) h = absurd (omega arith)
+inputs_end n m s f k h = rw h
 
 -- ── where a row leads ──
 
@@ -114,22 +110,22 @@ module _ (m : List ℕ) (c : Counts) (x : TypeId) (h : ℕ) (p : h ≡ head_at m
       next_u : next_in m c x.0 ≡ opt_list (bound (binds_in m c) u)
       next_u = rw (var_of u e q)
 
-      pub visit_hit : (k : List ℕ) (t : ℕ) → u ≡ v.0 → Visited m c v x k t k Hit
-      visit_hit k t s = as_u ∙ ap some s
+      pub visit_hit : (s : Queue) → u ≡ v.0 → Visited m c v x s s true
+      visit_hit s e = as_u ∙ ap some e
 
       not_v : u ≢ v.0 → as_var (row (rows_in m c) x.0) ≢ some v.0
       not_v d r = d (let g : some u ≡ some v.0 = sym as_u ∙ r in cc)
 
-      pub visit_open : (k : List ℕ) (t : ℕ) (b : Bound) → u ≢ v.0 → b ≡ bound_in m c (variable u) → b ≡ Open → Visited m c v x k t k (Tail t)
+      pub visit_open : (s : Queue) (b : Option·R TypeId) → u ≢ v.0 → b ≡ bound_in m c (variable u) → b ≡ None → Visited m c v x s s false
       unfolding push_all
-      visit_open k t b d r o = (not_v d, rw (next_u, bound_open m c (variable u) b r o))
+      visit_open s b d r o = (not_v d, rw (next_u, bound_open m c (variable u) b r o))
 
-      pub visit_bound : (k w : List ℕ) (t n : ℕ) (b : Bound) (y : TypeId) → u ≢ v.0 → b ≡ bound_in m c (variable u) → b ≡ To-as-B y → queue w n ≡ push_f c.types (queue k t) y.0 → Visited m c v x k t w (Tail n)
+      pub visit_bound : (s w : Queue) (b : Option·R TypeId) (y : TypeId) → u ≢ v.0 → b ≡ bound_in m c (variable u) → b ≡ Some y → w ≡ push_f c.types s y.0 → Visited m c v x s w false
       unfolding push_all
-      visit_bound k w t n b y d r o g = (not_v d, rw (next_u, bound_some m c (variable u) b r y o) g)
+      visit_bound s w b y d r o g = (not_v d, rw (next_u, bound_some m c (variable u) b r y o) g)
 
-    pub visit_parts : h ≢ 12 → (k w : List ℕ) (t n : ℕ) → queue w n ≡ push_all c.types (queue k t) (parts m c x) → Visited m c v x k t w (Tail n)
-    visit_parts d k w t n g =
+    pub visit_parts : h ≢ 12 → (s w : Queue) → w ≡ push_all c.types s (parts m c x) → Visited m c v x s w false
+    visit_parts d s w g =
         (λ r. (let y : ◌≡◌ {A = ℕ} 0 1 = (let f : none ≡ some v.0 = sym (no_var_row m c.types x.0 (rw p at d)) ∙ r in cc) in omega arith), rw (next_parts d) g)
 
 or_right : (a b : Bool) → b ≡ true → (a || b) ≡ true
@@ -194,10 +190,10 @@ module _ (m : List ℕ) (c : Counts) (v : ℕ) where
 -- ── along one by one ──
 
 module _ (m : List ℕ) (c : Counts) (v : VarId) where
-  pub led_var_open : (u : VarId) (b : Bound) → u.0 ≢ v.0 → b ≡ bound_in m c u → b ≡ Open → LedVar m c v u End
+  pub led_var_open : (u : VarId) (b : Option·R TypeId) → u.0 ≢ v.0 → b ≡ bound_in m c u → b ≡ None → LedVar m c v u End
   led_var_open u b d r o = (d, bound_open m c u b r o)
 
-  pub led_var_to : (u : VarId) (b : Bound) (y : TypeId) → u.0 ≢ v.0 → b ≡ bound_in m c u → b ≡ To-as-B y → LedVar m c v u (To y)
+  pub led_var_to : (u : VarId) (b : Option·R TypeId) (y : TypeId) → u.0 ≢ v.0 → b ≡ bound_in m c u → b ≡ Some y → LedVar m c v u (To y)
   led_var_to u b y d r o = (d, bound_some m c u b r y o)
 
   module _ (x : TypeId) (h : ℕ) (p : h ≡ head_at m c.types x.0) where
@@ -392,15 +388,15 @@ unfolding push_all
 all_le n s [] h = h
 all_le n s (y ∷ ys) h = all_le n (push_f n s y) ys (push_le n s y h)
 
-pub visited_le : (m : List ℕ) (c : Counts) (v : VarId) (x : TypeId) (q : List ℕ) (t : ℕ) (w : List ℕ) (r : Grown) (k : ℕ) → Visited m c v x q t w r → r ≡ Tail k → t ≤ 4622 → k ≤ 4622
-visited_le m c v x q t w r k h e l = let g = rw e at h in omega (arith, ap (λ (s : Queue). s.tail) g.1, all_le c.types (queue q t) (next_in m c x.0) l)
+pub visited_le : (m : List ℕ) (c : Counts) (v : VarId) (x : TypeId) (s w : Queue) → Visited m c v x s w false → s.tail ≤ 4622 → w.tail ≤ 4622
+visited_le m c v x s w h l = omega (arith, ap (λ (s : Queue). s.tail) h.1, all_le c.types s (next_in m c x.0) l)
 
 -- the empty queue
 abbrev pub blank : List ℕ
 blank = replicate 9244 0
 
-pub first_le : (n : ℕ) (q : List ℕ) (t z : ℕ) → queue q t ≡ push_f n (queue blank 0) z → t ≤ 4622
-first_le n q t z e = omega (arith, ap (λ (s : Queue). s.tail) e, push_le n (queue blank 0) z (omega arith))
+pub first_le : (n : ℕ) (s : Queue) (z : ℕ) → s ≡ push_f n (queue blank 0) z → s.tail ≤ 4622
+first_le n s z e = omega (arith, ap (λ (s : Queue). s.tail) e, push_le n (queue blank 0) z (omega arith))
 
 -- ── the search in the rows ──
 
@@ -492,23 +488,23 @@ module _ (m : List ℕ) (c : Counts) (held : Held m c) (v : ℕ) where
   pub work_hit : (z : ℕ) (q : List ℕ) (tail head : ℕ) → Work z q tail head → head < tail → as_var (row (rows_in m c) (entry q head)) ≡ some v → leads_in m c v (suc c.types) z ≡ true
   work_hit z q tail head w h e = mono_le m c v (1 + head) (suc c.types) z (omega (arith, w.valid.room)) (w.deep head h 1 (is-v m c v 0 (entry q head) e))
 
--- what holds in the loop of the search, whichever row z the queue q₀ began with
-abbrev pub Working : List ℕ → Counts → ℕ → List ℕ → ℕ → List ℕ → ℕ → ℕ → Type 0
-Working m c v q₀ t₀ q tail head = (held : Held m c) (z : ℕ) → queue q₀ t₀ ≡ push_f c.types (queue blank 0) z → Work m c held v z q tail head
+-- what holds in the loop of the search, whichever row z the queue b began with
+abbrev pub Working : List ℕ → Counts → ℕ → Queue → Queue → ℕ → Type 0
+Working m c v b s head = (held : Held m c) (z : ℕ) → b ≡ push_f c.types (queue blank 0) z → Work m c held v z s.cells s.tail head
 
-module _ (m : List ℕ) (c : Counts) (v : VarId) (q₀ : List ℕ) (t₀ : ℕ) where
-  pub reach_start : Working m c v.0 q₀ t₀ q₀ t₀ 0
-  reach_start held z e = work_start m c held v.0 q₀ t₀ z e
+module _ (m : List ℕ) (c : Counts) (v : VarId) (b : Queue) where
+  pub reach_start : Working m c v.0 b b 0
+  reach_start held z e = work_start m c held v.0 b.cells b.tail z e
 
-  module _ (q : List ℕ) (tail head : ℕ) (k : Working m c v.0 q₀ t₀ q tail head) where
-    pub reach_more : (x : ℕ) (q' : List ℕ) (n : ℕ) (r : Grown) → head < tail → x ≡ entry q head → Visited m c v (type x) q tail q' r → r ≡ Tail n → Working m c v.0 q₀ t₀ q' n (head + 1)
-    reach_more x q' n r h p a b held z e = let g = rw (b, p) at a in work_more m c held v.0 z q q' tail n head (k held z e) h g.0 g.1
+  module _ (s : Queue) (head : ℕ) (k : Working m c v.0 b s head) where
+    pub reach_more : (x : ℕ) (w : Queue) → head < s.tail → x ≡ entry s.cells head → Visited m c v (type x) s w false → Working m c v.0 b w (head + 1)
+    reach_more x w h p a held z e = let g = rw p at a in work_more m c held v.0 z s.cells w.cells s.tail w.tail head (k held z e) h g.0 g.1
 
-    pub reach_hit : (z : TypeId) (x : ℕ) (q' : List ℕ) (r : Grown) → queue q₀ t₀ ≡ push_f c.types (queue blank 0) z.0 → head < tail → x ≡ entry q head → Visited m c v (type x) q tail q' r → r ≡ Hit → Reached m c v z true
-    reach_hit z x q' r e h p a b held = let g = rw (b, p) at a in work_hit m c held v.0 z.0 q tail head (k held z.0 e) h g
+    pub reach_hit : (z : TypeId) (x : ℕ) (w : Queue) → b ≡ push_f c.types (queue blank 0) z.0 → head < s.tail → x ≡ entry s.cells head → Visited m c v (type x) s w true → Reached m c v z true
+    reach_hit z x w e h p a held = let g = rw p at a in work_hit m c held v.0 z.0 s.cells s.tail head (k held z.0 e) h g
 
-    pub reach_end : (z : TypeId) → queue q₀ t₀ ≡ push_f c.types (queue blank 0) z.0 → tail ≤ head → Reached m c v z false
-    reach_end z e h held = work_end m c held v.0 z.0 q tail head (k held z.0 e) h
+    pub reach_end : (z : TypeId) → b ≡ push_f c.types (queue blank 0) z.0 → s.tail ≤ head → Reached m c v z false
+    reach_end z e h held = work_end m c held v.0 z.0 s.cells s.tail head (k held z.0 e) h
 
 -- ── along one by one, the loop ──
 
@@ -530,10 +526,10 @@ module _ (m : List ℕ) (c : Counts) (v : VarId) (z : TypeId) where
     pub stands_none : (r : Lead) → Led m c v x r → r ≡ End → Stands m c v z false
     stands_none r a b = let g = rw b at a in stands_by false (sym (k ∙ g (suc (c.types + n))))
 
-    pub stands_on : (r : Lead) (y : TypeId) → 0 < n → Led m c v x r → r ≡ To y → Walking m c v.0 z.0 y.0 (n - 1)
-    stands_on r y h a b =
+    pub stands_on : (r : Lead) (y : TypeId) (d : ℕ) → n ≡ suc d → Led m c v x r → r ≡ To y → Walking m c v.0 z.0 y.0 d
+    stands_on r y d h a b =
         let g = rw b at a in
-        let i : c.types + n ≡ suc (c.types + (n - 1)) = omega arith in
+        let i : c.types + n ≡ suc (c.types + d) = omega arith in
         k ∙ g (c.types + n) ∙ ap (λ (j : ℕ). leads_in m c v.0 j y.0) i
 
     by_reach : (r : Bool) → ReachedK m c v x r → r ≡ leads_in m c v.0 (suc (c.types + n)) x.0
@@ -550,47 +546,37 @@ abbrev pub Seeking : List ℕ → Counts → ℕ → ℕ → ℕ → ℕ → Typ
 Seeking m c v z x n = seek_in m c v z ≡ seek (rows_in m c) (binds_in m c) v n x
 
 module _ (m : List ℕ) (c : Counts) (v : VarId) (z : TypeId) where
-  pub seek_start : Seeking m c v.0 z.0 z.0 (c.types + 1)
+  pub seek_start : (n : ℕ) → n ≡ c.types + 1 → Seeking m c v.0 z.0 z.0 n
   unfolding seek_in
-  seek_start = let i : suc c.types ≡ c.types + 1 = omega arith in rw (length-rows m c.types, i)
+  seek_start n h = let i : suc c.types ≡ n = omega arith in rw (length-rows m c.types, i)
 
   module _ (x : TypeId) (n : ℕ) (k : Seeking m c v.0 z.0 x.0 n) where
-    pub seek_lost : n ≤ 0 → Sought m c v z Lost
+    pub seek_lost : n ≡ 0 → Sought m c v z Lost
     unfolding seek
-    seek_lost h held = sym (k ∙ by n h)
-      where
-        by : (n : ℕ) → n ≤ 0 → seek (rows_in m c) (binds_in m c) v.0 n x.0 ≡ lost
-        by zero h = refl
-        by (suc n) h = absurd (omega arith)
+    seek_lost h held = sym (k ∙ rw h)
 
-    seek_step : 0 < n → seek (rows_in m c) (binds_in m c) v.0 n x.0 ≡ seek_var (rows_in m c) (binds_in m c) v.0 (seek (rows_in m c) (binds_in m c) v.0 (n - 1)) x.0 (as_var (row (rows_in m c) x.0))
+    seek_step : (j : ℕ) → n ≡ suc j → seek (rows_in m c) (binds_in m c) v.0 n x.0 ≡ seek_var (rows_in m c) (binds_in m c) v.0 (seek (rows_in m c) (binds_in m c) v.0 j) x.0 (as_var (row (rows_in m c) x.0))
     unfolding seek
-    seek_step h = by n h
-      where
-        by : (n : ℕ) → 0 < n → seek (rows_in m c) (binds_in m c) v.0 n x.0 ≡ seek_var (rows_in m c) (binds_in m c) v.0 (seek (rows_in m c) (binds_in m c) v.0 (n - 1)) x.0 (as_var (row (rows_in m c) x.0))
-        by zero h = absurd (omega arith)
-        by (suc n) h = let i : suc n - 1 ≡ n = omega arith in rw i
+    seek_step j h = rw h
 
-    module _ (l : 0 < n) (h : ℕ) (p : h ≡ head_at m c.types x.0) where
+    module _ (j : ℕ) (l : n ≡ suc j) (h : ℕ) (p : h ≡ head_at m c.types x.0) where
       module _ (u : ℕ) (e : h ≡ 12) (q : u ≡ number_at m c.types x.0) (r : Lead) (a : LedVar m c v (variable u) r) where
-        at_var_lem : seek_in m c v.0 z.0 ≡ cond (eqb u v.0) ring (follow (rows_in m c) (binds_in m c) v.0 (seek (rows_in m c) (binds_in m c) v.0 (n - 1)) (bound (binds_in m c) u))
-        at_var_lem = k ∙ seek_step l ∙ rw (as_u m c x h p v u e q)
+        at_var_lem : seek_in m c v.0 z.0 ≡ cond (eqb u v.0) ring (follow (rows_in m c) (binds_in m c) v.0 (seek (rows_in m c) (binds_in m c) v.0 j) (bound (binds_in m c) u))
+        at_var_lem = k ∙ seek_step j l ∙ rw (as_u m c x h p v u e q)
 
         pub seek_ring : r ≡ At → Sought m c v z Ring
         seek_ring b held = let g : u ≡ v.0 = rw b at a in sym (at_var_lem ∙ rw (eq-eqb u v.0 g))
 
-        pub seek_free : r ≡ End → Sought m c v z Free
-        seek_free b held = let g = rw b at a in sym (at_var_lem ∙ rw (ne_eqb u v.0 g.0, g.1))
+        pub seek_free : (r ≡ End) ⊎ (r ≡ Parts) → Sought m c v z Free
+        seek_free (inl b) held = let g = rw b at a in sym (at_var_lem ∙ rw (ne_eqb u v.0 g.0, g.1))
+        seek_free (inr b) held = absurd (rw b at a)
 
-        pub seek_never : r ≡ Parts → Sought m c v z Free
-        seek_never b held = absurd (rw b at a)
-
-        pub seek_on : (y : TypeId) → r ≡ To y → Seeking m c v.0 z.0 y.0 (n - 1)
+        pub seek_on : (y : TypeId) → r ≡ To y → Seeking m c v.0 z.0 y.0 j
         seek_on y b = let g = rw b at a in at_var_lem ∙ rw (ne_eqb u v.0 g.0, g.1)
 
       module _ (d : h ≢ 12) (s : Bool) (a : Stands m c v x s) where
         at_other : Held m c → seek_in m c v.0 z.0 ≡ cond s inside free
-        at_other held = k ∙ seek_step l ∙ rw (no_var_row m c.types x.0 (rw p at d), ← (a held))
+        at_other held = k ∙ seek_step j l ∙ rw (no_var_row m c.types x.0 (rw p at d), ← (a held))
 
         pub seek_inside : s ≡ true → Sought m c v z Inside
         seek_inside b held = sym (at_other held ∙ rw b)

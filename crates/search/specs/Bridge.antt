@@ -1,13 +1,11 @@
 -- The memory's cells and the rules' tables, as far as the search reads them: what a row is made of, and the binding of a variable.
-use Rattle.std.specs.Prelude.{◌≡◌, refl, ◌≢◌, List, [], ◌∷◌, ◌||◌, ℕ, ◌<◌, eqb}
+use Rattle.std.specs.Prelude.{◌≡◌, refl, ◌≢◌, List, [], ◌∷◌, ◌||◌, ℕ, ◌<◌, eqb, None, Option, Some}
 use Rattle.std.proofs.Common.{sym, ap, ◌∙◌}
 use Rattle.std.proofs.Math.Option.{none, some}
 use Rattle.theory.specs.Rules.{kids, as_var, row, bound}
 use Rattle.type_table.specs.declared.Counts.{Counts}
 use Rattle.type_table.specs.declared.TypeId.{TypeId}
 use Rattle.type_table.specs.declared.VarId.{VarId}
-use Rattle.type_table.specs.declared.Bound.{Bound}
-use Rattle.type_table.specs.declared.Bound.TheVariants.{To, Open}
 use Rattle.type_table.specs.Memory.{pick, head_at, number_at, output_at, first_at, count_at, inputs_from, shape_of, rows_of, binds_of}
 use Rattle.type_table.specs.Heads.{head_low, shape_cases, row_by}
 use Rattle.type_table.specs.View.{bound_in}
@@ -38,11 +36,11 @@ kids_row m c x =
 
 -- ── the bindings of a memory ──
 
-module _ (m : List ℕ) (c : Counts) (v : VarId) (b : Bound) (p : b ≡ bound_in m c v) where
+module _ (m : List ℕ) (c : Counts) (v : VarId) (b : Option TypeId) (p : b ≡ bound_in m c v) where
   -- open as the code reads it: no binding in the table
-  pub bound_open : b ≡ Open → bound (binds_of m c.vars) v.0 ≡ none
+  pub bound_open : b ≡ None → bound (binds_of m c.vars) v.0 ≡ none
   bound_open e = sym (bound_read m c v) ∙ ap bound_meant (sym p ∙ e)
 
   -- bound as the code reads it: that binding in the table
-  pub bound_some : (x : TypeId) → b ≡ To x → bound (binds_of m c.vars) v.0 ≡ some x.0
+  pub bound_some : (x : TypeId) → b ≡ Some x → bound (binds_of m c.vars) v.0 ≡ some x.0
   bound_some x e = sym (bound_read m c v) ∙ ap bound_meant (sym p ∙ e)

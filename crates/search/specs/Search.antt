@@ -9,8 +9,7 @@ use Rattle.type_table.specs.declared.VarId.{VarId}
 use Rattle.type_table.specs.Memory.{pick, most_types, head_at, number_at, output_at, first_at, count_at, inputs_from, rows_of, binds_of, Held}
 use Rattle.search.specs.declared.Found.{Found}
 use Rattle.search.specs.declared.Found.TheVariants.{Free, Ring, Inside, Lost}
-use Rattle.search.specs.declared.Grown.{Grown}
-use Rattle.search.specs.declared.Grown.TheVariants.{Hit, Tail}
+use Rattle.search.specs.declared.Queue.{Queue}
 use Rattle.search.specs.declared.Lead.{Lead}
 use Rattle.search.specs.declared.Lead.TheVariants.{At, End, Parts, To}
 
@@ -21,11 +20,6 @@ rows_in m c = rows_of m c.types
 -- the row x
 abbrev pub row_in : List ℕ → Counts → TypeId → Shape
 row_in m c x = row (rows_in m c) x.0
-
--- the cells of the queue, and how many rows it has
-pub record Queue : Type 0 where
-  pub cells : List ℕ
-  pub tail : ℕ
 
 -- a queue by its parts
 abbrev pub queue : List ℕ → ℕ → Queue
@@ -64,10 +58,10 @@ next_in m c x = next (rows_in m c) (binds_in m c) x
 abbrev pub leads_in : List ℕ → Counts → ℕ → ℕ → ℕ → Bool
 leads_in m c v n x = leads (rows_in m c) (binds_in m c) v n x
 
--- what `visit` does: it is the variable, or where it leads is queued
-abbrev pub Visited : List ℕ → Counts → VarId → TypeId → List ℕ → ℕ → List ℕ → Grown → Type 0
-Visited m c v x q t w Hit = as_var (row_in m c x) ≡ some v.0
-Visited m c v x q t w (Tail n) = (as_var (row_in m c x) ≢ some v.0) × (queue w n ≡ push_all c.types (queue q t) (next_in m c x.0))
+-- what `visit` does: the row is the variable's, or where it leads is queued
+abbrev pub Visited : List ℕ → Counts → VarId → TypeId → Queue → Queue → Bool → Type 0
+Visited m c v x s w true = as_var (row_in m c x) ≡ some v.0
+Visited m c v x s w false = (as_var (row_in m c x) ≢ some v.0) × (w ≡ push_all c.types s (next_in m c x.0))
 
 -- by the answer
 abbrev pub ReachedK : List ℕ → Counts → VarId → TypeId → Bool → Type 0

@@ -3,11 +3,10 @@
 
 ghost use Rattle.std.specs.Prelude.{◌≡◌};
 ghost use Rattle.type_table.specs.Memory.{inputs_from};
-ghost use Rattle.search.specs.Search.{queue, push_f, push_all, parts, Visited, Reached, Stands, LedVar, Led, Sought};
+ghost use Rattle.search.specs.Search.{push_f, push_all, parts, Visited, Reached, Stands, LedVar, Led, Sought};
 
 use type_table::{
-    Bound, Counts, HEAD_ARRAY, HEAD_INFER_TY, HEAD_LAMBDA, HEAD_PARAM, HEAD_REF, InputRange,
-    TypeId, VarId,
+    Counts, HEAD_ARRAY, HEAD_INFER_TY, HEAD_LAMBDA, HEAD_PARAM, HEAD_REF, InputRange, TypeId, VarId,
 };
 
 // Where a variable stands in what a row leads to: nowhere; at the end of its bindings; inside that row. `Lost` is never met in sound tables.
@@ -19,115 +18,89 @@ pub enum Found {
     Lost,
 }
 
-#[derive(Clone, Copy)]
-enum Grown {
-    Hit,
-    Tail(usize),
+// The most type rows.
+const ROWS: usize = type_table::MOST_TYPES as usize;
+// A mark and a place for each of them.
+const CELLS: usize = 9244;
+
+// The rows that a search has met, in the order in which it met them: cell y of the first ROWS is 1 once the row y is queued, and the rows
+// stand from ROWS on.
+#[derive(Drop)]
+struct Queue {
+    cells: [u16; CELLS],
+    tail: usize,
 }
 
-// The queue of a search: cell y of the first 4,622 is 1 once the row y, of n, is queued, and the rows stand from 4622 on, as they came.
-fn push(q: &mut [u16; 9244], n: u16, tail: usize, y: TypeId) -> usize
-    ensures { queue q.new result ≡ push_f n (queue q.old tail) y.0 }
-{
-    let x = y.0;
-    let i = x as usize;
-    if n <= x {
-        return tail;
-    }
-    if 4622 <= i {
-        return tail;
-    }
-    if q[i] == 0 {
-        if 4622 <= tail {
-            return tail;
+impl Queue {
+    // The row y, of n, is queued, unless it was.
+    #[tactic(auto, using(std::proofs::lemmas::Bool::Decides::nat_tests), unfolding(crate::specs::Search::push_f))]
+    fn push(&mut self, n: u16, y: TypeId)
+        ensures { self.new ≡ push_f n self.old y.0 }
+    {
+        let i = y.0 as usize;
+        if y.0 < n && i < ROWS && self.cells[i] == 0 && self.tail < ROWS {
+            self.cells[i] = 1;
+            self.cells[ROWS + self.tail] = y.0;
+            self.tail += 1;
         }
-        q[i] = 1;
-        q[4622 + tail] = x;
-        return tail + 1;
     }
-    tail
-}
 
-fn push_inputs(q: &mut [u16; 9244], m: &[u16], n: u16, r: InputRange, tail: usize) -> usize
-    ensures { queue q.new result ≡ push_all n (queue q.old tail) (inputs_from m.now r.first r.count) }
-{
-    let mut t = tail;
-    let mut f = r.first as u32;
-    let mut k = r.count;
-    while 0 < k {
-        let y = type_table::input(m, f);
-        t = push(q, n, t, y);
-        f += 1;
-        k -= 1;
-    }
-    t
-}
-
-// What a row other than a variable is made of goes into the queue.
-fn push_parts(q: &mut [u16; 9244], m: &[u16], c: Counts, x: TypeId, tail: usize) -> usize
-    ensures { queue q.new result ≡ push_all c.types (queue q.old tail) (parts m.now c x) }
-{
-    let n = c.types;
-    let h = type_table::head(m, c, x);
-    match h {
-        HEAD_PARAM | HEAD_LAMBDA => {
-            let o = type_table::output(m, c, x);
-            let t = push(q, n, tail, o);
-            let r = type_table::inputs(m, c, x);
-            push_inputs(q, m, n, r, t)
+    fn push_inputs(&mut self, m: &[u16], n: u16, r: InputRange)
+        ensures { self.new ≡ push_all n self.old (inputs_from m.now r.first r.count) }
+    {
+        let first = r.first as u32;
+        for at in first..first + r.count as u32 {
+            self.push(n, type_table::input(m, at));
         }
-        HEAD_ARRAY | HEAD_REF => {
-            let e = type_table::element(m, c, x);
-            push(q, n, tail, e)
-        }
-        _ => tail,
     }
-}
 
-// A row of the queue: it is the variable, or where it leads is queued.
-fn visit(q: &mut [u16; 9244], m: &[u16], c: Counts, v: VarId, x: TypeId, tail: usize) -> Grown
-    ensures { Visited m.now c v x q.old tail q.new result }
-{
-    let h = type_table::head(m, c, x);
-    if h == HEAD_INFER_TY {
+    // What a row other than a variable is made of is queued.
+    fn push_parts(&mut self, m: &[u16], c: Counts, x: TypeId)
+        ensures { self.new ≡ push_all c.types self.old (parts m.now c x) }
+    {
+        match type_table::head(m, c, x) {
+            HEAD_PARAM | HEAD_LAMBDA => {
+                self.push(c.types, type_table::output(m, c, x));
+                self.push_inputs(m, c.types, type_table::inputs(m, c, x));
+            }
+            HEAD_ARRAY | HEAD_REF => self.push(c.types, type_table::element(m, c, x)),
+            _ => {}
+        }
+    }
+
+    // Whether the row x is that of the variable v; if not, where it leads is queued.
+    fn visit(&mut self, m: &[u16], c: Counts, v: VarId, x: TypeId) -> bool
+        ensures { Visited m.now c v x self.old self.new result }
+    {
+        if type_table::head(m, c, x) != HEAD_INFER_TY {
+            self.push_parts(m, c, x);
+            return false;
+        }
         let u = type_table::var_of(m, c, x);
-        let i = u.0;
-        let w = v.0;
-        if i == w {
-            return Grown::Hit;
+        if u.0 == v.0 {
+            return true;
         }
-        match type_table::bound_to(m, c, u) {
-            Bound::Open => {
-                return Grown::Tail(tail);
-            }
-            Bound::To(y) => {
-                let n = c.types;
-                let t = push(q, n, tail, y);
-                return Grown::Tail(t);
-            }
+        if let Some(y) = type_table::bound_to(m, c, u) {
+            self.push(c.types, y);
         }
+        false
     }
-    let t = push_parts(q, m, c, x, tail);
-    Grown::Tail(t)
 }
 
 // Whether the row z leads to v. Each row is visited once.
 fn reaches(m: &[u16], c: Counts, v: VarId, z: TypeId) -> bool
     ensures { Reached m.now c v z result }
 {
-    let mut q = [0u16; 9244];
-    let n = c.types;
-    let mut tail = push(&mut q, n, 0, z);
-    let mut head: usize = 0;
-    while head < tail {
-        let x = q[4622 + head];
-        match visit(&mut q, m, c, v, TypeId(x), tail) {
-            Grown::Hit => {
-                return true;
-            }
-            Grown::Tail(t) => {
-                tail = t;
-            }
+    let mut q = Queue {
+        cells: [0; CELLS],
+        tail: 0,
+    };
+    q.push(c.types, z);
+    let mut head = 0;
+    while head < q.tail {
+        let x = TypeId(q.cells[ROWS + head]);
+        if q.visit(m, c, v, x) {
+            return true;
         }
         head += 1;
     }
@@ -146,30 +119,21 @@ enum Lead {
 fn leads_var(m: &[u16], c: Counts, v: VarId, u: VarId) -> Lead
     ensures { LedVar m.now c v u result }
 {
-    let i = u.0;
-    let j = v.0;
-    if i == j {
+    if u.0 == v.0 {
         return Lead::At;
     }
     match type_table::bound_to(m, c, u) {
-        Bound::Open => Lead::End,
-        Bound::To(y) => Lead::To(y),
+        None => Lead::End,
+        Some(y) => Lead::To(y),
     }
 }
 
 fn leads(m: &[u16], c: Counts, v: VarId, x: TypeId) -> Lead
     ensures { Led m.now c v x result }
 {
-    let h = type_table::head(m, c, x);
-    match h {
-        HEAD_ARRAY | HEAD_REF => {
-            let e = type_table::element(m, c, x);
-            Lead::To(e)
-        }
-        HEAD_INFER_TY => {
-            let u = type_table::var_of(m, c, x);
-            leads_var(m, c, v, u)
-        }
+    match type_table::head(m, c, x) {
+        HEAD_ARRAY | HEAD_REF => Lead::To(type_table::element(m, c, x)),
+        HEAD_INFER_TY => leads_var(m, c, v, type_table::var_of(m, c, x)),
         HEAD_PARAM | HEAD_LAMBDA => Lead::Parts,
         _ => Lead::End,
     }
@@ -180,23 +144,13 @@ fn stands_in(m: &[u16], c: Counts, v: VarId, z: TypeId) -> bool
     ensures { Stands m.now c v z result }
 {
     let mut x = z;
-    let mut n = c.types;
-    while 0 < n {
+    for _step in 0..c.types {
         match leads(m, c, v, x) {
-            Lead::At => {
-                return true;
-            }
-            Lead::End => {
-                return false;
-            }
-            Lead::Parts => {
-                return reaches(m, c, v, x);
-            }
-            Lead::To(y) => {
-                x = y;
-            }
+            Lead::At => return true,
+            Lead::End => return false,
+            Lead::Parts => break,
+            Lead::To(y) => x = y,
         }
-        n -= 1;
     }
     reaches(m, c, v, x)
 }
@@ -206,32 +160,19 @@ pub fn seek(m: &[u16], c: Counts, v: VarId, z: TypeId) -> Found
     ensures { Sought m.now c v z result }
 {
     let mut x = z;
-    let mut n = c.types as u32 + 1;
-    while 0 < n {
-        let h = type_table::head(m, c, x);
-        if h == HEAD_INFER_TY {
-            let u = type_table::var_of(m, c, x);
-            match leads_var(m, c, v, u) {
-                Lead::At => {
-                    return Found::Ring;
-                }
-                Lead::End => {
-                    return Found::Free;
-                }
-                Lead::Parts => {
-                    return Found::Free;
-                }
-                Lead::To(y) => {
-                    x = y;
-                }
-            }
-        } else {
-            if stands_in(m, c, v, x) {
-                return Found::Inside;
-            }
-            return Found::Free;
+    for _step in 0..c.types as u32 + 1 {
+        if type_table::head(m, c, x) != HEAD_INFER_TY {
+            return if stands_in(m, c, v, x) {
+                Found::Inside
+            } else {
+                Found::Free
+            };
         }
-        n -= 1;
+        match leads_var(m, c, v, type_table::var_of(m, c, x)) {
+            Lead::At => return Found::Ring,
+            Lead::End | Lead::Parts => return Found::Free,
+            Lead::To(y) => x = y,
+        }
     }
     Found::Lost
 }

@@ -5,71 +5,42 @@
 // standard input cannot be read or standard output cannot be written, a line on standard error says so.
 #![tactic(auto)]
 
+use body_input::Console;
 use conflict_set::{Lines, Sought};
-use decimal::Decimal;
 use std::env::Env;
-
-// What is asked for.
-#[derive(Clone, Copy)]
-enum Wanted {
-    Search(Sought),
-    // The arguments say nothing that is known.
-    Unknown,
-}
 
 // Room for the longest number; an argument that is longer is read as an empty one.
 const DIGITS: usize = 20;
 
-// The first n bytes of an argument as a number.
-fn number_of(a: &[u8], n: usize) -> Decimal {
-    if n <= a.len() {
-        return decimal::number(&a[0..n]);
-    }
-    Decimal::Bad
-}
-
-// With such lines, by the first argument.
-fn wanted_by(rt: &impl Env, l: Lines) -> Wanted {
+// The number that argument i is.
+fn number(rt: &impl Env, i: usize) -> Option<u64> {
     let mut a = [0u8; DIGITS];
-    let n = quarrel_program::arg(rt, 1, &mut a);
-    match number_of(&a, n) {
-        Decimal::Is(b) => Wanted::Search(Sought::Shortest(l, b)),
-        Decimal::Bad => Wanted::Unknown,
-    }
+    let n = quarrel_program::arg(rt, i, &mut a);
+    decimal::number(&a[..n])
 }
 
-// By the second argument.
-fn wanted_with_second(rt: &impl Env) -> Wanted {
-    let mut a = [0u8; quarrel_program::WHERE];
-    let n = quarrel_program::arg(rt, 2, &mut a);
-    if quarrel_program::is_where(&a, n) {
-        return wanted_by(rt, Lines::Places);
-    }
-    Wanted::Unknown
-}
-
-// By the arguments; the program's name is one of them.
-fn search_wanted(rt: &impl Env) -> Wanted {
-    if !quarrel_program::has_arg(rt, 1) {
-        return Wanted::Unknown;
-    }
-    if !quarrel_program::has_arg(rt, 2) {
-        return wanted_by(rt, Lines::Numbers);
-    }
-    if !quarrel_program::has_arg(rt, 3) {
-        return wanted_with_second(rt);
-    }
-    Wanted::Unknown
+// The search that the arguments ask for; the program's name is one of them.
+fn search_wanted(rt: &impl Env) -> Option<Sought> {
+    let lines = if !quarrel_program::has_arg(rt, 2) {
+        Lines::Numbers
+    } else if !quarrel_program::has_arg(rt, 3) && quarrel_program::is_where(rt, 2) {
+        Lines::Places
+    } else {
+        return None;
+    };
+    Some(Sought::Shortest(lines, number(rt, 1)?))
 }
 
 fn main(rt: HostRuntime) {
-    let err = rt.stderr();
+    let console = Console {
+        out: &rt,
+        err: &rt.stderr(),
+        program: "shortest",
+    };
     match search_wanted(&rt) {
-        Wanted::Search(q) => quarrel_program::run(&rt, &rt, &err, q, b"shortest"),
-        Wanted::Unknown => body_input::complain(
-            &err,
-            b"shortest",
-            b"the arguments are a number of subsets below 2^64, and where if the places are wanted\n",
+        Some(sought) => quarrel_program::run(&rt, &console, sought),
+        None => console.complain(
+            "the arguments are a number of subsets below 2^64, and where if the places are wanted",
         ),
     }
 }

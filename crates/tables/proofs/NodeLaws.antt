@@ -1,18 +1,15 @@
 -- What each return and turn of a function over the table of nodes shows, over plain variables.
 use mathlib.Core.Path.{◌≡◌, refl, sym, ap, ◌∙◌}
-use mathlib.Core.Bool.{Bool, true, false}
 use mathlib.Core.List.{List, [], ◌∷◌}
 use mathlib.Core.Option.{Option, none}
 use Prim.Native.Nat.{ℕ, suc, zero, ◌+◌, ◌-◌, ◌*◌, ◌≤◌, ◌<◌}
 use native.Mathlib.Omega.{arith}
 use native.Mathlib.Numerals.{towards_suc}
-use lib.Dec.{eqb}
 use lib.ListN.{length, get_or, replicate}
 use lib.Seq.{sets}
 use borrow.Author.Tests.{eq-eqb, ne_eqb}
-use Rattle.type_table.specs.Memory.{cell, pick, tab}
+use Rattle.type_table.specs.Memory.{cell, tab}
 use Rattle.type_table.specs.Tables.{get_d_tab}
-use Rattle.nodes.specs.declared.Res.TheVariants as res
 use Rattle.nodes.specs.Nodes.{res_of}
 use Rattle.record.specs.declared.Record.{Record}
 use Rattle.record.specs.declared.Extra.{Extra}
@@ -55,16 +52,6 @@ tag_low (suc (suc (suc (suc (suc (suc (suc (suc (suc a))))))))) b h = absurd (om
 pub tag_high : (a b : ℕ) → 9 ≤ a → 6 ≡ extra_tag (extra_of a b)
 unfolding extra_of res_of
 tag_high a b h = rw (ne_eqb a 0 (λ q. omega arith), ne_eqb a 7 (λ q. omega arith), ne_eqb a 8 (λ q. omega arith), ne_eqb a 1 (λ q. omega arith), ne_eqb a 2 (λ q. omega arith), ne_eqb a 3 (λ q. omega arith), ne_eqb a 4 (λ q. omega arith), ne_eqb a 5 (λ q. omega arith))
-
--- none, e and o have no number
-pub value_none : (a b : ℕ) → ((((((Unit {0} × (a ≡ 1 → ⊥)) × (a ≡ 2 → ⊥)) × (a ≡ 3 → ⊥)) × (a ≡ 4 → ⊥)) × (a ≡ 7 → ⊥)) × (a ≡ 8 → ⊥)) → 0 ≡ extra_value (extra_of a b)
-unfolding extra_of res_of
-value_none a b h = rw (ne_eqb a 7 h.0.1, ne_eqb a 8 h.1, ne_eqb a 1 h.0.0.0.0.0.1, ne_eqb a 2 h.0.0.0.0.1, ne_eqb a 3 h.0.0.0.1, ne_eqb a 4 h.0.0.1) (by (eqb a 0) (eqb a 5))
-  where
-    by : (p q : Bool) → 0 ≡ extra_value (pick p extra.Absent (extra.Resolved (pick q res.Error res.Other)))
-    by true q = refl
-    by false true = refl
-    by false false = refl
 
 -- the cells of an EXTRA
 pub extra_stores : (m t w : List ℕ) (f j a b x y : ℕ) → a ≡ cell m f → b ≡ cell m (f + 1) → x ≡ extra_tag (extra_of a b) → y ≡ extra_value (extra_of a b) → w ≡ sets t j (x ∷ y ∷ []) → w ≡ sets t j (extra_in m f)

@@ -23,19 +23,11 @@ use Rattle.record.specs.Encodes.{input_count, input_total}
 use Rattle.tables.specs.declared.Fields.{Fields}
 use Rattle.tables.specs.Rows.{padded, cells_to, cells_of, Fills}
 use Rattle.tables.specs.RowLaws.{length_cells, cells_ext, cells_tab, length-padded, types_append}
-use Rattle.tables.specs.Types.{inputs_from_lem, shape_inputs, type_row, type_rows, inputs_of, type_table, type_room, fields, fields_of, fields_in, fitted, type_in, inputs_in, type_from}
+use Rattle.tables.specs.Types.{inputs_from_lem, shape_inputs, type_row, type_rows, inputs_of, type_table, type_room, fields_of, fields_in, fitted, type_in, inputs_in, type_from}
 use Rattle.table_cells.specs.Stores.{sets_behind, sets_whole}
 use Rattle.tables.proofs.CellLaws.{cells_more, rows_more, padded_part}
 
 -- ── the fields of a row ──
-
--- the fields of a row whose variant is known
-pub fields_are : (r q : Row) (s : Fields) → r ≡ q → s ≡ fields_of q → s ≡ fields_of r
-fields_are r q s e p = rw e p
-
--- the fields of a row with a width
-pub fields_wide : (h a b : ℕ) (s : Fields) → s ≡ fields h a 0 0 0 → a ≡ b → s ≡ fields h b 0 0 0
-fields_wide h a b s p e = rw e at p
 
 -- the fields of a row of the memory
 pub fields_read : (m : List ℕ) (c : Counts) (x : ℕ) (row : Row) (r : Fields) → row ≡ view_in m c (type x) → r ≡ fields_of row → r ≡ fields_in m c x

@@ -1,4 +1,5 @@
 -- What each return and turn of a function over the table of variables shows, over plain variables.
+use Rattle.std.specs.Prelude.{Option}
 use mathlib.Core.Path.{◌≡◌, refl, sym, ap, ◌∙◌}
 use mathlib.Core.List.{List, [], ◌∷◌}
 use mathlib.Core.Bool.{Bool}
@@ -10,8 +11,6 @@ use lib.Seq.{sets}
 use Rattle.type_table.specs.declared.Counts.{Counts}
 use Rattle.type_table.specs.declared.Kind.{Kind}
 use Rattle.type_table.specs.declared.Kind.TheVariants.{Regular, Integer, Float}
-use Rattle.type_table.specs.declared.Bound.{Bound}
-use Rattle.type_table.specs.declared.Origin.{Origin}
 use Rattle.type_table.specs.Memory.{kind_of, mem_of, mark_at}
 use Rattle.type_table.specs.Made.{kind_number}
 use Rattle.type_table.specs.View.{variable, kind_in, bound_in, origin_in}
@@ -25,13 +24,15 @@ use Rattle.tables.specs.Rows.{padded, cells_to, flag, given, or_zero, Fills}
 use Rattle.tables.specs.RowLaws.{cells_ext}
 use Rattle.tables.specs.Vars.{kind_cell, var_row, var_table, var_room, var_in}
 use Rattle.tables.proofs.CellLaws.{rows_more, rows_filled}
+use Rattle.type_table.specs.declared.NodeId.{NodeId}
+use Rattle.type_table.specs.declared.TypeId.{TypeId}
 
 -- three pairs of cells are a row
 three_pairs : (t t₁ t₂ u : List ℕ) (j a b d e f g : ℕ) → t₁ ≡ sets t j (a ∷ b ∷ []) → t₂ ≡ sets t₁ (j + 2) (d ∷ e ∷ []) → u ≡ sets t₂ (j + 4) (f ∷ g ∷ []) → u ≡ sets t j (a ∷ b ∷ d ∷ e ∷ f ∷ g ∷ [])
 three_pairs t t₁ t₂ u j a b d e f g p q r = rw (r, q, p) (simp towards_suc)
 
 -- the stores of a variable
-pub var_stores : (m : List ℕ) (c : Counts) (v : ℕ) (kind : Kind) (b : Bound) (o : Origin) (mark : Bool) → kind ≡ kind_in m c (variable v) → b ≡ bound_in m c (variable v) → o ≡ origin_in m c (variable v) → mark ≡ mark_at m c.vars v
+pub var_stores : (m : List ℕ) (c : Counts) (v : ℕ) (kind : Kind) (b : Option TypeId) (o : Option NodeId) (mark : Bool) → kind ≡ kind_in m c (variable v) → b ≡ bound_in m c (variable v) → o ≡ origin_in m c (variable v) → mark ≡ mark_at m c.vars v
     → (a₀ a₁ a₂ a₃ a₄ a₅ : ℕ) → a₀ ≡ kind_number kind → a₁ ≡ given (bound_meant b) → a₂ ≡ or_zero (bound_meant b) → a₃ ≡ given (origin_meant o) → a₄ ≡ or_zero (origin_meant o) → a₅ ≡ flag mark
     → (t t₁ t₂ u : List ℕ) → let j = v * 6 in
     t₁ ≡ sets t j (a₀ ∷ a₁ ∷ []) → t₂ ≡ sets t₁ (j + 2) (a₂ ∷ a₃ ∷ []) → u ≡ sets t₂ (j + 4) (a₄ ∷ a₅ ∷ [])

@@ -15,31 +15,22 @@ ghost use Rattle.tables.specs.Vars.{var_table, var_room, var_in};
 ghost use Rattle.tables.specs.Types.{inputs_from_lem, type_table, type_room, width_number, fields, fields_of, fields_in, fitted, type_in, type_from, inputs_in};
 ghost use Rattle.tables.specs.Log.{log_table, log_room, equation_at};
 
+use memory_cells::read;
 use record::Record;
 use type_table::{
-    Bound, Counts, HEAD_ARRAY, HEAD_BOOL, HEAD_DIVERGES, HEAD_DOUBLE, HEAD_ERROR, HEAD_FLOAT,
-    HEAD_FN_DEF, HEAD_INFER_TY, HEAD_INSTANCE, HEAD_INT, HEAD_LAMBDA, HEAD_NIL, HEAD_PARAM,
-    HEAD_REF, HEAD_UINT, Kind, Origin, Row, TypeId, VarId, Width,
+    Counts, HEAD_ARRAY, HEAD_BOOL, HEAD_DIVERGES, HEAD_DOUBLE, HEAD_ERROR, HEAD_FLOAT, HEAD_FN_DEF,
+    HEAD_INFER_TY, HEAD_INSTANCE, HEAD_INT, HEAD_LAMBDA, HEAD_NIL, HEAD_PARAM, HEAD_REF, HEAD_UINT,
+    Kind, NodeId, Row, TypeId, VarId, Width,
 };
 
 // Where the inputs begin in the table of made types: behind 4,096 rows of five cells.
 pub const INPUTS_FROM: u32 = 20480;
 
-// ── cells ──
-
-// The cell i, 0 past the end.
-fn read(m: &[u16], i: usize) -> u16
-    ensures { result ≡ cell m.now i }
-{
-    if i < m.len() { m[i] } else { 0 }
-}
-
 // Zeros from the cell i to the end.
 pub fn zero_from(t: &mut [u16], i: usize)
     ensures { t.new ≡ sets t.old i (replicate (length t.old - i) 0) }
 {
-    let e = t.len();
-    table_cells::zero_cells(t, i, e);
+    table_cells::zero_cells(t, i, t.len());
 }
 
 // ── nodes ──
@@ -50,11 +41,10 @@ fn option_cells(m: &[u16], f: u32, t: &mut [u16], j: u32)
 {
     let i = f as usize;
     if read(m, i) == 1 {
-        let x = read(m, i + 1);
-        table_cells::put_two(t, j, 1, x);
-        return;
+        table_cells::put_two(t, j, 1, read(m, i + 1));
+    } else {
+        table_cells::put_two(t, j, 0, 0);
     }
-    table_cells::put_two(t, j, 0, 0);
 }
 
 // EXTRA's tag; what is no tag counts as o.
@@ -65,16 +55,12 @@ fn extra_tag(a: u16, b: u16) -> u16
 }
 
 // EXTRA's number; 0 for none, e and o.
+#[tactic(auto, unfolding(record::specs::Own::extra_of, nodes::specs::Nodes::res_of))]
 fn extra_value(a: u16, b: u16) -> u16
     ensures { result ≡ extra_value (extra_of a b) }
 {
     match a {
-        1 => b,
-        2 => b,
-        3 => b,
-        4 => b,
-        7 => b,
-        8 => b,
+        1..=4 | 7 | 8 => b,
         _ => 0,
     }
 }
@@ -86,9 +72,7 @@ fn extra_cells(m: &[u16], f: u32, t: &mut [u16], j: u32)
     let i = f as usize;
     let a = read(m, i);
     let b = read(m, i + 1);
-    let x = extra_tag(a, b);
-    let y = extra_value(a, b);
-    table_cells::put_two(t, j, x, y);
+    table_cells::put_two(t, j, extra_tag(a, b), extra_value(a, b));
 }
 
 // The row of the node i.
@@ -106,10 +90,8 @@ fn node_row(m: &[u16], i: u16, t: &mut [u16])
 pub fn fill_nodes(m: &[u16], c: Record, k: u16, t: &mut [u16])
     ensures { Fills m.now c (node_room k (length t.old)) (λ s. padded (length t.old) (node_table s.own k)) t.new }
 {
-    let mut i: u16 = 0;
-    while i < k {
+    for i in 0..k {
         node_row(m, i, t);
-        i += 1;
     }
     zero_from(t, k as usize * 6);
 }
@@ -128,42 +110,42 @@ fn kind_cell(k: Kind) -> u16
 }
 
 // Whether a variable is bound.
-fn bound_flag(b: Bound) -> u16
+fn bound_flag(b: Option<TypeId>) -> u16
     ensures { result ≡ given (bound_meant b) }
 {
     match b {
-        Bound::Open => 0,
-        Bound::To(x) => 1,
+        None => 0,
+        Some(_) => 1,
     }
 }
 
 // BOUND.
-fn bound_cell(b: Bound) -> u16
+fn bound_cell(b: Option<TypeId>) -> u16
     ensures { result ≡ or_zero (bound_meant b) }
 {
     match b {
-        Bound::Open => 0,
-        Bound::To(x) => x.0,
+        None => 0,
+        Some(x) => x.0,
     }
 }
 
 // Whether a variable has an origin.
-fn origin_flag(o: Origin) -> u16
+fn origin_flag(o: Option<NodeId>) -> u16
     ensures { result ≡ given (origin_meant o) }
 {
     match o {
-        Origin::Literal => 0,
-        Origin::Node(n) => 1,
+        None => 0,
+        Some(_) => 1,
     }
 }
 
 // ORIGIN.
-fn origin_cell(o: Origin) -> u16
+fn origin_cell(o: Option<NodeId>) -> u16
     ensures { result ≡ or_zero (origin_meant o) }
 {
     match o {
-        Origin::Literal => 0,
-        Origin::Node(n) => n.0,
+        None => 0,
+        Some(n) => n.0,
     }
 }
 
@@ -171,7 +153,7 @@ fn origin_cell(o: Origin) -> u16
 fn flag_cell(b: bool) -> u16
     ensures { result ≡ flag b }
 {
-    if b { 1 } else { 0 }
+    u16::from(b)
 }
 
 // Writes the row of the variable v.
@@ -179,33 +161,23 @@ fn put_var(m: &[u16], c: Counts, v: u16, t: &mut [u16])
     ensures { t.new ≡ sets t.old (v * 6) (var_in m.now c v) }
 {
     let at = v as u32 * 6;
-    let kind = type_table::kind_of(m, c, VarId(v));
     let bound = type_table::bound_to(m, c, VarId(v));
     let origin = type_table::origin_of(m, c, VarId(v));
-    let marked = type_table::is_marked(m, c, VarId(v));
-    let k = kind_cell(kind);
-    let b = bound_flag(bound);
-    let x = bound_cell(bound);
-    let o = origin_flag(origin);
-    let n = origin_cell(origin);
-    let f = flag_cell(marked);
-    table_cells::put_two(t, at, k, b);
-    table_cells::put_two(t, at + 2, x, o);
-    table_cells::put_two(t, at + 4, n, f);
+    let kind = kind_cell(type_table::kind_of(m, c, VarId(v)));
+    let mark = flag_cell(type_table::is_marked(m, c, VarId(v)));
+    table_cells::put_two(t, at, kind, bound_flag(bound));
+    table_cells::put_two(t, at + 2, bound_cell(bound), origin_flag(origin));
+    table_cells::put_two(t, at + 4, origin_cell(origin), mark);
 }
 
 // The variables: KIND, whether it is bound, BOUND, whether it has an origin, ORIGIN, mark.
 pub fn fill_vars(m: &[u16], c: Record, t: &mut [u16])
     ensures { Fills m.now c (var_room (length t.old)) (λ s. padded (length t.old) (var_table s)) t.new }
 {
-    let d = c.counts;
-    let n = d.vars;
-    let mut i: u16 = 0;
-    while i < n {
-        put_var(m, d, i, t);
-        i += 1;
+    for v in 0..c.counts.vars {
+        put_var(m, c.counts, v, t);
     }
-    zero_from(t, n as usize * 6);
+    zero_from(t, c.counts.vars as usize * 6);
 }
 
 // ── made types ──
@@ -246,69 +218,38 @@ fn plain(h: u16, a: u16) -> Fields
 }
 
 // The fields of a row.
+#[tactic(auto, unfolding(crate::specs::Types::fields_of))]
 fn fields_of(r: Row) -> Fields
     ensures { result ≡ fields_of r }
 {
     match r {
         Row::Bool => plain(HEAD_BOOL, 0),
-        Row::Uint(w) => {
-            let a = width_number(w);
-            plain(HEAD_UINT, a)
-        }
-        Row::Int(w) => {
-            let a = width_number(w);
-            plain(HEAD_INT, a)
-        }
+        Row::Uint(w) => plain(HEAD_UINT, width_number(w)),
+        Row::Int(w) => plain(HEAD_INT, width_number(w)),
         Row::Float => plain(HEAD_FLOAT, 0),
         Row::Double => plain(HEAD_DOUBLE, 0),
-        Row::Instance(k) => {
-            let a = k.0;
-            plain(HEAD_INSTANCE, a)
-        }
-        Row::Param(a, o, i) => {
-            let b = o.0;
-            let f = i.first;
-            let k = i.count;
-            Fields {
-                head: HEAD_PARAM,
-                number: a,
-                output: b,
-                first: f,
-                count: k,
-            }
-        }
-        Row::FnDef(d) => {
-            let a = d.0;
-            plain(HEAD_FN_DEF, a)
-        }
-        Row::Array(e) => {
-            let a = e.0;
-            plain(HEAD_ARRAY, a)
-        }
+        Row::Instance(k) => plain(HEAD_INSTANCE, k.0),
+        Row::Param(a, o, i) => Fields {
+            head: HEAD_PARAM,
+            number: a,
+            output: o.0,
+            first: i.first,
+            count: i.count,
+        },
+        Row::FnDef(d) => plain(HEAD_FN_DEF, d.0),
+        Row::Array(e) => plain(HEAD_ARRAY, e.0),
         Row::Nil => plain(HEAD_NIL, 0),
         Row::Error => plain(HEAD_ERROR, 0),
         Row::Diverges => plain(HEAD_DIVERGES, 0),
-        Row::InferTy(v) => {
-            let a = v.0;
-            plain(HEAD_INFER_TY, a)
-        }
-        Row::Lambda(n, o, i) => {
-            let a = n.0;
-            let b = o.0;
-            let f = i.first;
-            let k = i.count;
-            Fields {
-                head: HEAD_LAMBDA,
-                number: a,
-                output: b,
-                first: f,
-                count: k,
-            }
-        }
-        Row::Ref(e) => {
-            let a = e.0;
-            plain(HEAD_REF, a)
-        }
+        Row::InferTy(v) => plain(HEAD_INFER_TY, v.0),
+        Row::Lambda(n, o, i) => Fields {
+            head: HEAD_LAMBDA,
+            number: n.0,
+            output: o.0,
+            first: i.first,
+            count: i.count,
+        },
+        Row::Ref(e) => plain(HEAD_REF, e.0),
     }
 }
 
@@ -316,16 +257,14 @@ fn fields_of(r: Row) -> Fields
 fn fields_in(m: &[u16], c: Counts, x: u16) -> Fields
     ensures { result ≡ fields_in m.now c x }
 {
-    let row = type_table::view(m, c, TypeId(x));
-    fields_of(row)
+    fields_of(type_table::view(m, c, TypeId(x)))
 }
 
 // How many types there are from the number first on.
 fn made_count(c: Counts, first: u16) -> u16
     ensures { (result ≡ c.types - first) × (first + result ≤ 65535) }
 {
-    let n = c.types;
-    if first < n { n - first } else { 0 }
+    c.types.saturating_sub(first)
 }
 
 // A number as a cell; 0 where it does not fit.
@@ -340,14 +279,9 @@ fn put_type(r: Fields, i: u16, k: u32, t: &mut [u16])
     ensures { t.new ≡ sets t.old (i * 5) (type_in r k) }
 {
     let at = i as u32 * 5;
-    let h = r.head;
-    let a = r.number;
-    let o = r.output;
-    let n = r.count;
-    let f = fitted_cell(k);
-    table_cells::put_two(t, at, h, a);
-    table_cells::put_two(t, at + 2, o, f);
-    table_cells::put(t, at as usize + 4, n);
+    table_cells::put_two(t, at, r.head, r.number);
+    table_cells::put_two(t, at + 2, r.output, fitted_cell(k));
+    table_cells::put(t, at as usize + 4, r.count);
 }
 
 // Writes the types from the number first on, one row after another, and zeros behind them.
@@ -355,14 +289,11 @@ fn put_types(m: &[u16], c: Counts, first: u16, t: &mut [u16])
     ensures { t.new ≡ sets t.old 0 (padded inputs_from_lem (cells_to (type_from m.now c first) (c.types - first))) }
 {
     let n = made_count(c, first);
-    let mut i: u16 = 0;
     let mut k: u32 = 0;
-    while i < n {
+    for i in 0..n {
         let r = fields_in(m, c, first + i);
         put_type(r, i, k, t);
-        let a = r.count;
-        k += a as u32;
-        i += 1;
+        k += r.count as u32;
     }
     table_cells::zero_cells(t, n as usize * 5, INPUTS_FROM as usize);
 }
@@ -372,11 +303,9 @@ fn put_inputs(m: &[u16], f: u16, k: u16, t: &mut [u16], j: u32)
     ensures { t.new ≡ sets t.old j (inputs_from m.now f k) }
 {
     let at = j as usize;
-    let mut i: u16 = 0;
-    while i < k {
+    for i in 0..k {
         let x = type_table::input(m, f as u32 + i as u32);
         table_cells::put(t, at + i as usize, x.0);
-        i += 1;
     }
 }
 
@@ -385,15 +314,11 @@ fn put_all_inputs(m: &[u16], c: Counts, first: u16, t: &mut [u16])
     ensures { t.new ≡ sets t.old inputs_from_lem (padded (length t.old - inputs_from_lem) (cells_to (inputs_in m.now c first) (c.types - first))) }
 {
     let n = made_count(c, first);
-    let mut i: u16 = 0;
     let mut k: u32 = 0;
-    while i < n {
+    for i in 0..n {
         let r = fields_in(m, c, first + i);
-        let f = r.first;
-        let a = r.count;
-        put_inputs(m, f, a, t, INPUTS_FROM + k);
-        k += a as u32;
-        i += 1;
+        put_inputs(m, r.first, r.count, t, INPUTS_FROM + k);
+        k += r.count as u32;
     }
     zero_from(t, INPUTS_FROM as usize + k as usize);
 }
@@ -403,9 +328,8 @@ fn put_all_inputs(m: &[u16], c: Counts, first: u16, t: &mut [u16])
 pub fn fill_types(m: &[u16], c: Record, first: u16, t: &mut [u16])
     ensures { Fills m.now c (type_room first (length t.old)) (λ s. type_table (length t.old) (drop first s.rows)) t.new }
 {
-    let d = c.counts;
-    put_types(m, d, first, t);
-    put_all_inputs(m, d, first, t);
+    put_types(m, c.counts, first, t);
+    put_all_inputs(m, c.counts, first, t);
 }
 
 // ── equations ──
@@ -415,27 +339,21 @@ fn equation_row(m: &[u16], f: u32, t: &mut [u16], j: u32)
     ensures { t.new ≡ sets t.old j (equation_at m.now f) }
 {
     let i = f as usize;
-    let a = read(m, i);
-    let b = read(m, i + 1);
-    let d = read(m, i + 2);
-    table_cells::put_two(t, j, a, b);
-    table_cells::put(t, j as usize + 2, d % 16);
+    table_cells::put_two(t, j, read(m, i), read(m, i + 1));
+    table_cells::put(t, j as usize + 2, read(m, i + 2) % 16);
 }
 
 // The equations, as many as fit, the oldest first: the expected and the got row, and the answer's number.
 pub fn fill_log(m: &[u16], c: Record, t: &mut [u16])
     ensures { Fills m.now c (log_room (length m.now)) (λ s. padded (length t.old) (log_table (length t.old) s.log)) t.new }
 {
-    let k = c.equations;
-    let mut i: u16 = 0;
-    while i < k {
+    for i in 0..c.equations {
         let j = i as u32 * 3;
         if t.len() < j as usize + 3 {
             zero_from(t, j as usize);
             return;
         }
         equation_row(m, record::LOG_AT as u32 + j, t, j);
-        i += 1;
     }
-    zero_from(t, k as usize * 3);
+    zero_from(t, c.equations as usize * 3);
 }

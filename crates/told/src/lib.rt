@@ -3,30 +3,16 @@
 
 ghost use Rattle.std.specs.Prelude.{◌≡◌, ◌∷◌, [], ◌++◌, set};
 ghost use Rattle.std.proofs.lemmas.List.Edits.{sets};
-ghost use Rattle.body.specs.Body.{fault_number};
 ghost use Rattle.answers.specs.Lent.{answer_number};
 ghost use Rattle.report_text.specs.Written.{checked_answer, report_number};
 ghost use Rattle.told.specs.Numbers.{no_totals, totals_of, total_numbers, told_numbers, own_numbers, text_length, number_told};
 
 use answers::{Answer, Totals};
-use forms::Fault;
 use refs::Counts;
 use report_text::Reported;
 
 // How many numbers are told.
 pub const TOLD: usize = 14;
-
-// Document 01's number of a refusal of the reader.
-fn fault_number(f: Fault) -> usize
-    ensures { result ≡ fault_number f }
-{
-    match f {
-        Fault::Form => 3,
-        Fault::Limit => 4,
-        Fault::Reference => 5,
-        Fault::Levels => 6,
-    }
-}
 
 // The counts of a refusal.
 fn no_totals() -> Totals
@@ -79,7 +65,7 @@ fn told_numbers(a: Answer, n: usize) -> [usize; TOLD]
         Answer::Checked(c) => numbers(0, 0, 0, c, n),
         Answer::TooLong => numbers(1, 0, 0, z, n),
         Answer::ShortTable => numbers(2, 0, 0, z, n),
-        Answer::Refused(f, l) => numbers(fault_number(f), 1, l, z, n),
+        Answer::Refused(f, l) => numbers(body::fault_number(f), 1, l, z, n),
         Answer::Declined(k, p) => numbers(k as usize, 1, p.0 as usize, z, n),
     }
 }
@@ -90,10 +76,7 @@ fn totals_of(a: Answer) -> Totals
 {
     match a {
         Answer::Checked(c) => c,
-        Answer::TooLong => no_totals(),
-        Answer::ShortTable => no_totals(),
-        Answer::Refused(f, l) => no_totals(),
-        Answer::Declined(k, p) => no_totals(),
+        _ => no_totals(),
     }
 }
 
@@ -110,10 +93,8 @@ fn put(t: &mut [usize], i: usize, x: usize)
 fn put_all(t: &mut [usize], xs: [usize; TOLD])
     ensures { t.new ≡ sets t.old 0 xs }
 {
-    let mut i = 0;
-    while i < TOLD {
+    for i in 0..TOLD {
         put(t, i, xs[i]);
-        i += 1;
     }
 }
 
@@ -130,8 +111,7 @@ pub fn tell(t: &mut [usize], a: Answer, n: usize) -> usize
 pub fn tell_own(t: &mut [usize], k: usize, a: Answer, n: usize) -> usize
     ensures { number_told result t.new ≡ number_told k (sets t.old 0 (own_numbers k a n)) }
 {
-    let c = totals_of(a);
-    let xs = numbers(k, 0, 0, c, n);
+    let xs = numbers(k, 0, 0, totals_of(a), n);
     put_all(t, xs);
     k
 }

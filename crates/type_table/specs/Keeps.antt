@@ -1,5 +1,5 @@
 -- Each writing operation is its step of the theory on the tables of the memory, where there is room, and keeps `Laid` and `Sound` always. Assumes `Laid` or `Sound`.
-use Rattle.std.specs.Prelude.{◌≡◌, ◌≢◌, ◌⊎◌, List, [], ◌∷◌, ◌++◌, true, false, ◌&&◌, set, length, eqb, ltb}
+use Rattle.std.specs.Prelude.{◌≡◌, ◌≢◌, ◌⊎◌, List, [], ◌∷◌, ◌++◌, true, false, ◌&&◌, set, length, eqb, ltb, Option, Some}
 use Rattle.std.proofs.Math.Path.{refl}
 use Rattle.std.proofs.Common.{sym, ap, ◌∙◌, inl, inr, length-set, length-append, get_or-set_same, get_or-set_other}
 use Rattle.std.proofs.Math.Option.{none, some}
@@ -22,8 +22,6 @@ use Rattle.theory.proofs.Start.{start_track}
 use Rattle.type_table.specs.declared.Counts.{Counts}
 use Rattle.type_table.specs.declared.NodeId.{NodeId}
 use Rattle.type_table.specs.declared.Kind.{Kind}
-use Rattle.type_table.specs.declared.Origin.{Origin}
-use Rattle.type_table.specs.declared.Origin.TheVariants.{Node}
 use Rattle.type_table.specs.Memory.{pick, tab, most_types, most_vars, most_inputs, rows_at, inputs_at, arrays_at, cells, cell, counts, inputs_from, shape_of, rows_of, kind_of, kinds_of, numbered, origins_of, binds_of, marks_of, mem_of, Held}
 use Rattle.type_table.specs.Made.{marking, binding, kind_number, origin_number, row_written, var_written, Making, making, draw_in, append_in, pool_cell, enter_in, intern_in, intern_of, parts_in, Counting, pushed, push_in, fixed_heads, fixed_widths, fixed_rows, pool_cells, cleared, start_in}
 use Rattle.type_table.specs.Tables.{tab_snoc, length-rows, length_kinds, length_binds, length_marks}
@@ -39,10 +37,10 @@ laid_held laid = record { room = omega (arith, laid.size, laid.vars); vars = lai
 -- ── a variable is drawn ──
 
 -- a node's number is read as it was stored
-pub origin_node : (n : NodeId) → n.0 < 65535 → numbered (origin_number (Node n)) ≡ some n.0
+pub origin_node : (n : NodeId) → n.0 < 65535 → numbered (origin_number (Some n)) ≡ some n.0
 origin_node n h = rw (lt-ltb n.0 65535 h, add-one n.0)
 
-module _ {m : List ℕ} {c : Counts} (laid : Laid m c) (room : c.types < most_types) (room' : c.vars < most_vars) (k : Kind) (o : Origin) where
+module _ {m : List ℕ} {c : Counts} (laid : Laid m c) (room : c.types < most_types) (room' : c.vars < most_vars) (k : Kind) (o : Option NodeId) where
   -- the number of the kind
   abbrev kn : ℕ
   kn = kind_number k
@@ -131,12 +129,12 @@ module _ {m : List ℕ} {c : Counts} (laid : Laid m c) (room : c.types < most_ty
       }
 
 -- without room nothing changes
-draw_cases : {m : List ℕ} {c : Counts} (laid : Laid m c) (k : Kind) (o : Origin) (P : Making → Type 0) → (most_vars ≤ c.vars → P (making c 0 m)) → (most_types ≤ c.types → P (making c 0 m))
+draw_cases : {m : List ℕ} {c : Counts} (laid : Laid m c) (k : Kind) (o : Option NodeId) (P : Making → Type 0) → (most_vars ≤ c.vars → P (making c 0 m)) → (most_types ≤ c.types → P (making c 0 m))
     → ((room : c.types < most_types) (room' : c.vars < most_vars) → P (making (both_more laid room room' k o) c.types (w laid room room' k o))) → P (draw_in m c k o)
 unfolding draw_in
 draw_cases {m} {c} laid k o P no-variable no_row new = limit_cases P most_vars c.vars (making c 0 m) _ no-variable (λ h. limit_cases P most_types c.types (making c 0 m) _ no_row (λ g. new g h))
 
-module _ {m : List ℕ} {c : Counts} (laid : Laid m c) (k : Kind) (o : Origin) where
+module _ {m : List ℕ} {c : Counts} (laid : Laid m c) (k : Kind) (o : Option NodeId) where
   -- the answer is the new row, and the state is that with a variable drawn
   pub draw_state : c.types < most_types → c.vars < most_vars → {X Er : Type 0} (s : St X Er) → answered (draw_in m c k o) s ≡ (c.types, drawn (kind_of (kind_number k)) (numbered (origin_number o)) (state_of m c s))
   draw_state room room' s =
@@ -151,7 +149,7 @@ module _ {m : List ℕ} {c : Counts} (laid : Laid m c) (k : Kind) (o : Origin) w
   draw_laid = draw_cases laid k o (λ (r : Making). Laid r.memory r.counts) (λ l. laid) (λ l. laid) (λ g h. drawn_laid laid g h k o)
 
 -- `Sound` is kept
-pub draw_sound : {m : List ℕ} {c : Counts} → Sound m c → (k : Kind) (o : Origin) → Sound (draw_in m c k o).memory (draw_in m c k o).counts
+pub draw_sound : {m : List ℕ} {c : Counts} → Sound m c → (k : Kind) (o : Option NodeId) → Sound (draw_in m c k o).memory (draw_in m c k o).counts
 draw_sound sound k o = draw_cases sound.laid k o (λ (r : Making). Sound r.memory r.counts) (λ l. sound) (λ l. sound) (λ g h. drawn_sound sound.laid g h k o sound)
 
 -- ── the row that a made type is given ──

@@ -1,15 +1,14 @@
 -- What the writing operations leave in the memory and answer.
-use Rattle.std.specs.Prelude.{List, [], ◌∷◌, ℕ, suc, zero, ◌+◌, ◌-◌, ◌*◌, get_or, set, length, eqb, ltb, leb}
+use Rattle.std.specs.Prelude.{List, [], ◌∷◌, ℕ, suc, zero, ◌+◌, ◌-◌, ◌*◌, get_or, set, length, eqb, ltb, leb, None, Option, Some}
 use Rattle.theory.specs.Rules.{infer_head}
 use Rattle.theory.specs.Program.{clip}
 use Rattle.type_table.specs.declared.Counts.{Counts}
 use Rattle.type_table.specs.declared.Made.{Made}
 use Rattle.type_table.specs.declared.Kind.{Kind}
 use Rattle.type_table.specs.declared.Kind.TheVariants.{Regular, Integer, Float}
-use Rattle.type_table.specs.declared.Origin.{Origin}
-use Rattle.type_table.specs.declared.Origin.TheVariants.{Node, Literal}
 unfoldable pub use Rattle.memory_cells.specs.Cells.{row_written, var_written}
 use Rattle.type_table.specs.Memory.{pick, cell, counts, most_types, most_vars, most_inputs, inputs_at, arrays_at, refs_at, defs_at, instances_at, cells}
+use Rattle.type_table.specs.declared.NodeId.{NodeId}
 
 -- a mark is set
 unfoldable pub marking : List ℕ → ℕ → ℕ → List ℕ
@@ -26,9 +25,9 @@ kind_number Integer = 1
 kind_number Float = 2
 
 -- 0 for a literal, else the node's number plus one
-abbrev pub origin_number : Origin → ℕ
-origin_number Literal = 0
-origin_number (Node n) = pick (ltb n.0 65535) (n.0 + 1) 0
+abbrev pub origin_number : Option NodeId → ℕ
+origin_number None = 0
+origin_number (Some n) = pick (ltb n.0 65535) (n.0 + 1) 0
 
 -- what an operation that makes a type answers, and the memory
 pub record Making : Type 0 where
@@ -54,7 +53,7 @@ abbrev pub pushed : Counts → List ℕ → Counting
 pushed c m = record { counts = c; memory = m }
 
 -- a new variable and its row
-unfoldable pub draw_in : List ℕ → Counts → Kind → Origin → Making
+unfoldable pub draw_in : List ℕ → Counts → Kind → Option NodeId → Making
 draw_in m c k o =
     pick (leb most_vars c.vars) (making c 0 m)
     (pick (leb most_types c.types) (making c 0 m)

@@ -1,6 +1,6 @@
 -- What each public operation promises, by the definition that its contract names: its step of the theory on the tables of the memory, and that `Sound` is kept.
 -- Each line cites the law that shows it. That the end which `follow` answers is reached is proofs/Promises.
-use Rattle.std.specs.Prelude.{◌≡◌, List, false, ℕ, ◌+◌, ◌≤◌, ◌<◌, get_or, length, set}
+use Rattle.std.specs.Prelude.{◌≡◌, List, false, ℕ, ◌+◌, ◌≤◌, ◌<◌, get_or, length, set, None, Option}
 use Rattle.std.proofs.Math.Option.{none, some}
 use Rattle.theory.specs.Rules.{arr, ref, fn, fun, lam, base, inst, row, kind, bound, bind, array_head, ref_head, fn_def_head, instance_head, lambda_head, param_head}
 use Rattle.theory.specs.Program.{St, drawn, interned, marking as marking·T}
@@ -10,8 +10,6 @@ use Rattle.type_table.specs.declared.Counts.{Counts}
 use Rattle.type_table.specs.declared.TypeId.{TypeId}
 use Rattle.type_table.specs.declared.VarId.{VarId}
 use Rattle.type_table.specs.declared.Kind.{Kind}
-use Rattle.type_table.specs.declared.Bound.TheVariants.{Open}
-use Rattle.type_table.specs.declared.Origin.{Origin}
 use Rattle.type_table.specs.Memory.{most_types, most_vars, cells, head_at, number_at, output_at, first_at, count_at, inputs_from, shape_of, shape_at, rows_of, kind_of, kinds_of, numbered, origins_of, binds_of, mark_at, marks_of, mem_of}
 use Rattle.type_table.specs.View.{type, kind_in, origin_in, bound_in, view_in, onward_in, end_in}
 use Rattle.type_table.specs.Made.{kind_number, origin_number, marking, binding, draw_in, intern_in, intern_of, parts_in, push_in, start_in}
@@ -19,6 +17,7 @@ use Rattle.type_table.specs.Tables.{row_at, mark_at_lem}
 use Rattle.type_table.specs.Sound.{fixed_types, Sound, state_of, answered}
 use Rattle.type_table.specs.Reads.{row_meant, origin_meant, bound_meant, view_row, kind_read, origin_read, bound_read, follow_open}
 use Rattle.type_table.specs.Keeps.{laid_held, draw_state, draw_sound, array_state, array_sound, ref_state, ref_sound, fn_state, fn_sound, instance_state, instance_sound, push_state, push_sound, lambda_state, lambda_sound, function_state, function_sound, mark_state, mark_sound, bind_mem, bind_sound, start_state, start_sound}
+use Rattle.type_table.specs.declared.NodeId.{NodeId}
 
 -- ── what reads; it changes nothing ──
 
@@ -49,14 +48,14 @@ module _ (m : List ℕ) (c : Counts) where
   is_marked_promise v = mark_at_lem m c.vars v.0
 
 -- follow: the row that it answers is bound to nothing
-pub follow_promise : {m : List ℕ} {c : Counts} → Sound m c → (x : ℕ) → onward_in m c (type (end_in m c x)) ≡ Open
+pub follow_promise : {m : List ℕ} {c : Counts} → Sound m c → (x : ℕ) → onward_in m c (type (end_in m c x)) ≡ None
 follow_promise = follow_open
 
 -- ── what writes: its step of the theory ──
 
 module _ {X Er : Type 0} {m : List ℕ} {c : Counts} (sound : Sound m c) (s : St X Er) where
   -- draw: the theory draws a variable
-  pub draw_step : (k : Kind) (o : Origin) → c.types < most_types → c.vars < most_vars → answered (draw_in m c k o) s ≡ (c.types, drawn (kind_of (kind_number k)) (numbered (origin_number o)) (state_of m c s))
+  pub draw_step : (k : Kind) (o : Option NodeId) → c.types < most_types → c.vars < most_vars → answered (draw_in m c k o) s ≡ (c.types, drawn (kind_of (kind_number k)) (numbered (origin_number o)) (state_of m c s))
   draw_step k o room room' = draw_state sound.laid k o room room' s
 
   -- array_of: the theory makes an array
@@ -103,7 +102,7 @@ start_step m large = start_state m large
 
 module _ {m : List ℕ} {c : Counts} (sound : Sound m c) where
   -- draw keeps it
-  pub draw_keeps : (k : Kind) (o : Origin) → Sound (draw_in m c k o).memory (draw_in m c k o).counts
+  pub draw_keeps : (k : Kind) (o : Option NodeId) → Sound (draw_in m c k o).memory (draw_in m c k o).counts
   draw_keeps = draw_sound sound
 
   -- array_of keeps it

@@ -1,5 +1,5 @@
 -- What the reading operations answer is what the tables of the memory hold; and `follow` reaches an end, where `Sound` holds.
-use Rattle.std.specs.Prelude.{◌≡◌, List, Bool, true, false, get_or, eqb}
+use Rattle.std.specs.Prelude.{◌≡◌, List, Bool, true, false, get_or, eqb, None, Option as Option·R, Some}
 use Rattle.std.proofs.Math.Path.{refl, sym}
 use Rattle.std.proofs.Common.{ap, ◌∙◌, arith, eqb-true, ne_eqb}
 use Rattle.std.proofs.Math.Option.{Option, none, some}
@@ -15,15 +15,12 @@ use Rattle.type_table.specs.declared.Width.{Width}
 use Rattle.type_table.specs.declared.Width.TheVariants.{W8, W16, W32, W64}
 use Rattle.type_table.specs.declared.Row.{Row}
 use Rattle.type_table.specs.declared.Row.TheVariants.{Bool as Bool-as-R, Uint, Int, Float, Double, Instance, Param, FnDef, Array, Nil, Error, Diverges, InferTy, Lambda, Ref}
-use Rattle.type_table.specs.declared.Origin.{Origin}
-use Rattle.type_table.specs.declared.Origin.TheVariants.{Node, Literal}
-use Rattle.type_table.specs.declared.Bound.{Bound}
-use Rattle.type_table.specs.declared.Bound.TheVariants.{To, Open}
 use Rattle.type_table.specs.Memory.{pick, var_cell, head_at, number_at, inputs_from, width_of, shape_of, shape_at, rows_of, kind_of, kind_at, kinds_of, numbered, origin_at, origins_of, binding_at, binds_of}
 use Rattle.type_table.specs.View.{type, variable, kind_code, kind_in, origin_code, origin_in, bound_code, bound_in, width_code, view_of, view_in, onward_in, end_by, end_or, end_from, end_in}
 use Rattle.type_table.specs.Made.{kind_number}
 use Rattle.type_table.specs.Tables.{row_at, kind_at_lem, origin_at_lem, bound_at, length-rows}
 use Rattle.type_table.specs.Sound.{Sound}
+use Rattle.type_table.specs.declared.NodeId.{NodeId}
 
 -- ── definitions ──
 
@@ -53,14 +50,14 @@ row_meant m (Lambda n o i) = lam n.0 o.0 (inputs_from m i.first i.count)
 row_meant m (Ref e) = ref e.0
 
 -- the node, none for a literal
-abbrev pub origin_meant : Origin → Option ℕ
-origin_meant Literal = none
-origin_meant (Node n) = some n.0
+abbrev pub origin_meant : Option·R NodeId → Option ℕ
+origin_meant None = none
+origin_meant (Some n) = some n.0
 
 -- the row that is bound, none for an open variable
-abbrev pub bound_meant : Bound → Option ℕ
-bound_meant Open = none
-bound_meant (To x) = some x.0
+abbrev pub bound_meant : Option·R TypeId → Option ℕ
+bound_meant None = none
+bound_meant (Some x) = some x.0
 
 -- ── laws ──
 
@@ -127,9 +124,9 @@ module _ (m : List ℕ) (c : Counts) where
 -- ── the end of the bindings ──
 
 -- what a row is bound to, if it is bound, has the property
-abbrev Onward : (ℕ → Type 0) → Bound → Type 0
-Onward P Open = Unit {0}
-Onward P (To y) = P y.0
+abbrev Onward : (ℕ → Type 0) → Option·R TypeId → Type 0
+Onward P None = Unit {0}
+Onward P (Some y) = P y.0
 
 module _ (m : List ℕ) (c : Counts) where
   -- what a row is bound to is where the row leads
@@ -144,28 +141,28 @@ module _ (m : List ℕ) (c : Counts) where
       variable_row : head_at m c.types x ≡ 12 → row (rows_of m c.types) x ≡ var (number_at m c.types x)
       variable_row e = rw (row_at m c.types x, e)
 
-      by : (b : Bool) → eqb (head_at m c.types x) 12 ≡ b → Onward P (pick b (bound_in m c (variable (number_at m c.types x))) Open)
+      by : (b : Bool) → eqb (head_at m c.types x) 12 ≡ b → Onward P (pick b (bound_in m c (variable (number_at m c.types x))) None)
       by true e = bound_onward (binding_at m c.vars (number_at m c.types x)) (rw (variable_row (eqb-true (head_at m c.types x) 12 e), bound_at m c.vars (number_at m c.types x)) at h)
       by false e = tt
 
-  end_open : (rank : ℕ → ℕ) → ((x : ℕ) → All (λ (y : ℕ). rank y < rank x) (next (rows_of m c.types) (binds_of m c.vars) x)) → (n x : ℕ) → rank x < n → onward_in m c (type (end_from m c n x)) ≡ Open
+  end_open : (rank : ℕ → ℕ) → ((x : ℕ) → All (λ (y : ℕ). rank y < rank x) (next (rows_of m c.types) (binds_of m c.vars) x)) → (n x : ℕ) → rank x < n → onward_in m c (type (end_from m c n x)) ≡ None
   end_open rank falls zero x h = absurd (omega arith)
   end_open rank falls (suc n) x h = by (λ y k. end_open rank falls n y k) (onward_in m c (type x)) refl (onward_next (λ (y : ℕ). rank y < rank x) x (falls x))
     where
-      by : ((y : ℕ) → rank y < n → onward_in m c (type (end_from m c n y)) ≡ Open) → (r : Bound) → onward_in m c (type x) ≡ r → Onward (λ (y : ℕ). rank y < rank x) r → onward_in m c (type (end_by (end_from m c n) x r)) ≡ Open
-      by ih Open e k = e
-      by ih (To y) e k = ih y.0 (omega arith)
+      by : ((y : ℕ) → rank y < n → onward_in m c (type (end_from m c n y)) ≡ None) → (r : Option·R TypeId) → onward_in m c (type x) ≡ r → Onward (λ (y : ℕ). rank y < rank x) r → onward_in m c (type (end_by (end_from m c n) x r)) ≡ None
+      by ih None e k = e
+      by ih (Some y) e k = ih y.0 (omega arith)
 
   -- the end of a row's bindings asks of the row that it is bound to alone
   end_local : (f g : ℕ → ℕ) (x : ℕ) → All (λ (y : ℕ). f y ≡ g y) (next (rows_of m c.types) (binds_of m c.vars) x) → end_by f x (onward_in m c (type x)) ≡ end_by g x (onward_in m c (type x))
   end_local f g x h = by (onward_in m c (type x)) (onward_next (λ (y : ℕ). f y ≡ g y) x h)
     where
-      by : (r : Bound) → Onward (λ (y : ℕ). f y ≡ g y) r → end_by f x r ≡ end_by g x r
-      by Open k = refl
-      by (To y) k = k
+      by : (r : Option·R TypeId) → Onward (λ (y : ℕ). f y ≡ g y) r → end_by f x r ≡ end_by g x r
+      by None k = refl
+      by (Some y) k = k
 
 -- the row that `follow` answers is bound to nothing
-pub follow_open : {m : List ℕ} {c : Counts} → Sound m c → (x : ℕ) → onward_in m c (type (end_in m c x)) ≡ Open
+pub follow_open : {m : List ℕ} {c : Counts} → Sound m c → (x : ℕ) → onward_in m c (type (end_in m c x)) ≡ None
 unfolding end_in
 follow_open {m} {c} sound x = end_open m c sound.good.rank sound.good.falls (c.types + 1) x (omega (arith, sound.good.top x, length-rows m c.types))
 

@@ -1,5 +1,5 @@
 -- What the reading operations answer, in the enums of the code.
-use Rattle.std.specs.Prelude.{List, ℕ, suc, zero, ◌+◌, eqb}
+use Rattle.std.specs.Prelude.{List, ℕ, suc, zero, ◌+◌, eqb, None, Option as Option·R, Some}
 use Rattle.std.proofs.Math.Option.{Option, none, some}
 use Rattle.theory.specs.Rules.{iter}
 use Rattle.type_table.specs.declared.Counts.{Counts}
@@ -13,10 +13,6 @@ use Rattle.type_table.specs.declared.Row.{Row}
 use Rattle.type_table.specs.declared.Row.TheVariants.{Bool, Uint, Int, Float, Double, Instance, Param, FnDef, Array, Nil, Error, Diverges, InferTy, Lambda, Ref}
 use Rattle.type_table.specs.declared.Kind.{Kind}
 use Rattle.type_table.specs.declared.Kind.TheVariants.{Regular, Integer, Float as Float-as-K}
-use Rattle.type_table.specs.declared.Origin.{Origin}
-use Rattle.type_table.specs.declared.Origin.TheVariants.{Node, Literal}
-use Rattle.type_table.specs.declared.Bound.{Bound}
-use Rattle.type_table.specs.declared.Bound.TheVariants.{To, Open}
 use Rattle.type_table.specs.Memory.{pick, var_cell, head_at, number_at, output_at, first_at, count_at, binding_at}
 
 -- the type of a number
@@ -44,21 +40,21 @@ unfoldable pub kind_in : List ℕ → Counts → VarId → Kind
 kind_in m c v = kind_code (var_cell m c.vars v.0 0)
 
 -- the origin that a number stands for: 0 is a literal, else the node plus one
-abbrev pub origin_code : ℕ → Origin
-origin_code zero = Literal
-origin_code (suc n) = Node (node n)
+abbrev pub origin_code : ℕ → Option·R NodeId
+origin_code zero = None
+origin_code (suc n) = Some (node n)
 
 -- the origin of a variable
-unfoldable pub origin_in : List ℕ → Counts → VarId → Origin
+unfoldable pub origin_in : List ℕ → Counts → VarId → Option·R NodeId
 origin_in m c v = origin_code (var_cell m c.vars v.0 1)
 
 -- a binding as the code has it
-abbrev pub bound_code : Option ℕ → Bound
-bound_code none = Open
-bound_code (some x) = To (type x)
+abbrev pub bound_code : Option ℕ → Option·R TypeId
+bound_code none = None
+bound_code (some x) = Some (type x)
 
 -- the binding of a variable
-unfoldable pub bound_in : List ℕ → Counts → VarId → Bound
+unfoldable pub bound_in : List ℕ → Counts → VarId → Option·R TypeId
 bound_in m c v = bound_code (binding_at m c.vars v.0)
 
 -- the width that a number stands for
@@ -89,13 +85,13 @@ unfoldable pub view_in : List ℕ → Counts → TypeId → Row
 view_in m c x = view_of (head_at m c.types x.0) (number_at m c.types x.0) (type (output_at m c.types x.0)) (range (first_at m c.types x.0) (count_at m c.types x.0))
 
 -- what a row is bound to, if it is a variable
-unfoldable pub onward_in : List ℕ → Counts → TypeId → Bound
-onward_in m c x = pick (eqb (head_at m c.types x.0) 12) (bound_in m c (variable (number_at m c.types x.0))) Open
+unfoldable pub onward_in : List ℕ → Counts → TypeId → Option·R TypeId
+onward_in m c x = pick (eqb (head_at m c.types x.0) 12) (bound_in m c (variable (number_at m c.types x.0))) None
 
 -- the row itself where it is not bound, else what f answers of the row that it is bound to
-abbrev pub end_by : (ℕ → ℕ) → ℕ → Bound → ℕ
-end_by f x (To y) = f y.0
-end_by f x Open = x
+abbrev pub end_by : (ℕ → ℕ) → ℕ → Option·R TypeId → ℕ
+end_by f x (Some y) = f y.0
+end_by f x None = x
 
 -- the end of a row's bindings, followed variable by variable, at most n of them; row d where they are more
 abbrev pub end_or : List ℕ → Counts → ℕ → ℕ → ℕ → ℕ

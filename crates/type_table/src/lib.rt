@@ -1,8 +1,8 @@
 // Types, variables, bindings and the pool of made types, over one lent memory of numbers. specs/Memory.antt says how a memory is read,
 // and docs/TABLES.md has its regions.
-#![tactic(auto)]
+#![tactic(auto, using(std::proofs::lemmas::Bool::Decides::nat_tests))]
 
-ghost use Rattle.std.specs.Prelude.{◌≡◌, ℕ, ◌+◌, ◌*◌, ◌<◌, ◌≤◌, length};
+ghost use Rattle.std.specs.Prelude.{◌≡◌, MatchOption, ℕ, ◌+◌, ◌*◌, ◌<◌, ◌≤◌, length};
 ghost use Rattle.theory.specs.Program.{clip as clip·T};
 ghost use Rattle.theory.specs.Rules.{array_head, ref_head, fn_def_head, instance_head, lambda_head, param_head};
 ghost use Rattle.type_table.specs.Memory.{cell, cells, inputs_at, head_at, row_cell, number_at, output_at, first_at, count_at, var_cell, mark_at};
@@ -133,39 +133,24 @@ pub enum Row {
 }
 
 // `InferKind`.
-#[derive(Clone, Copy)]
+#[derive(Clone, Copy, PartialEq, Eq)]
 pub enum Kind {
     Regular,
     Integer,
     Float,
 }
 
-// The node that drew a variable; a literal's variable has none.
-#[derive(Clone, Copy)]
-pub enum Origin {
-    Node(NodeId),
-    Literal,
-}
-
-// A variable's binding.
-#[derive(Clone, Copy)]
-pub enum Bound {
-    To(TypeId),
-    Open,
-}
-
 // ── rows ──
 
 // The place of a row's head in `TyKind`; that of Nil for what is no row or no head.
+#[tactic(auto, using(std::proofs::lemmas::Bool::Decides::nat_tests), unfolding(crate::specs::Memory::head_at))]
 pub fn head(m: &[u16], c: Counts, x: TypeId) -> u16
     ensures { result ≡ head_at m.now c.types x.0 }
 {
-    let i = x.0;
-    let n = c.types;
-    if n <= i {
+    if x.0 >= c.types {
         return HEAD_NIL;
     }
-    let h = memory_cells::read(m, ROWS_AT + i as usize * 5);
+    let h = memory_cells::read(m, ROWS_AT + x.0 as usize * 5);
     if h < HEADS { h } else { HEAD_NIL }
 }
 
@@ -173,15 +158,15 @@ pub fn head(m: &[u16], c: Counts, x: TypeId) -> u16
 fn row_cell(m: &[u16], c: Counts, x: TypeId, k: u16) -> u16
     ensures { result ≡ row_cell m.now c.types x.0 k }
 {
-    let i = x.0;
-    let n = c.types;
-    if n <= i {
-        return 0;
+    if x.0 < c.types {
+        memory_cells::row_cell(m, x.0, k)
+    } else {
+        0
     }
-    memory_cells::row_cell(m, i, k)
 }
 
 // The number that a row has first, whatever it stands for: a width, instance, definition, element, variable, SPAN or node.
+#[tactic(auto, using(std::proofs::lemmas::Bool::Decides::nat_tests), unfolding(crate::specs::Memory::number_at))]
 pub fn number(m: &[u16], c: Counts, x: TypeId) -> u16
     ensures { result ≡ number_at m.now c.types x.0 }
 {
@@ -217,6 +202,7 @@ pub fn inst_of(m: &[u16], c: Counts, x: TypeId) -> InstId
 }
 
 // The output of a function or a lambda.
+#[tactic(auto, using(std::proofs::lemmas::Bool::Decides::nat_tests), unfolding(crate::specs::Memory::output_at))]
 pub fn output(m: &[u16], c: Counts, x: TypeId) -> TypeId
     ensures { result.0 ≡ output_at m.now c.types x.0 }
 {
@@ -224,12 +210,14 @@ pub fn output(m: &[u16], c: Counts, x: TypeId) -> TypeId
 }
 
 // Where the inputs of a function or a lambda stand.
+#[tactic(auto, using(std::proofs::lemmas::Bool::Decides::nat_tests), unfolding(crate::specs::Memory::first_at, crate::specs::Memory::count_at))]
 pub fn inputs(m: &[u16], c: Counts, x: TypeId) -> InputRange
     ensures { (result.first ≡ first_at m.now c.types x.0) × (result.count ≡ count_at m.now c.types x.0) }
 {
-    let f = row_cell(m, c, x, 3);
-    let k = row_cell(m, c, x, 4);
-    InputRange { first: f, count: k }
+    InputRange {
+        first: row_cell(m, c, x, 3),
+        count: row_cell(m, c, x, 4),
+    }
 }
 
 // The row of an input, by its place.
@@ -239,6 +227,7 @@ pub fn input(m: &[u16], at: u32) -> TypeId
     TypeId(memory_cells::read(m, INPUTS_AT + at as usize))
 }
 
+#[tactic(auto, using(std::proofs::lemmas::Bool::Decides::nat_tests), unfolding(crate::specs::View::width_code))]
 fn width_of(a: u16) -> Width
     ensures { result ≡ width_code a }
 {
@@ -250,6 +239,7 @@ fn width_of(a: u16) -> Width
     }
 }
 
+#[tactic(auto, using(std::proofs::lemmas::Bool::Decides::nat_tests), unfolding(crate::specs::View::view_of))]
 fn decode(h: u16, a: u16, o: TypeId, i: InputRange) -> Row
     ensures { result ≡ view_of h a o i }
 {
@@ -273,18 +263,21 @@ fn decode(h: u16, a: u16, o: TypeId, i: InputRange) -> Row
 }
 
 // A type row, taken apart; Nil for what is no row.
+#[tactic(auto, using(std::proofs::lemmas::Bool::Decides::nat_tests), unfolding(crate::specs::View::view_in))]
 pub fn view(m: &[u16], c: Counts, x: TypeId) -> Row
     ensures { result ≡ view_in m.now c x }
 {
-    let h = head(m, c, x);
-    let a = number(m, c, x);
-    let o = output(m, c, x);
-    let i = inputs(m, c, x);
-    decode(h, a, o, i)
+    decode(
+        head(m, c, x),
+        number(m, c, x),
+        output(m, c, x),
+        inputs(m, c, x),
+    )
 }
 
 // ── variables ──
 
+#[tactic(auto, using(std::proofs::lemmas::Bool::Decides::nat_tests), unfolding(crate::specs::View::kind_code))]
 fn kind_code(k: u16) -> Kind
     ensures { result ≡ kind_code k }
 {
@@ -299,73 +292,69 @@ fn kind_code(k: u16) -> Kind
 fn var_cell(m: &[u16], c: Counts, v: VarId, k: u16) -> u16
     ensures { result ≡ var_cell m.now c.vars v.0 k }
 {
-    let i = v.0;
-    let n = c.vars;
-    if n <= i {
-        return 0;
+    if v.0 < c.vars {
+        memory_cells::var_cell(m, v.0, k)
+    } else {
+        0
     }
-    memory_cells::var_cell(m, i, k)
 }
 
 // A variable's kind; Regular for what is no variable.
+#[tactic(auto, using(std::proofs::lemmas::Bool::Decides::nat_tests), unfolding(crate::specs::View::kind_in))]
 pub fn kind_of(m: &[u16], c: Counts, v: VarId) -> Kind
     ensures { result ≡ kind_in m.now c v }
 {
-    let k = var_cell(m, c, v, 0);
-    kind_code(k)
+    kind_code(var_cell(m, c, v, 0))
 }
 
 // The node that drew a variable; none for a literal and for what is no variable.
-pub fn origin_of(m: &[u16], c: Counts, v: VarId) -> Origin
+#[tactic(auto, using(std::proofs::lemmas::Bool::Decides::nat_tests), unfolding(crate::specs::View::origin_in))]
+pub fn origin_of(m: &[u16], c: Counts, v: VarId) -> Option<NodeId>
     ensures { result ≡ origin_in m.now c v }
 {
-    let o = var_cell(m, c, v, 1);
-    if o == 0 {
-        return Origin::Literal;
+    match var_cell(m, c, v, 1) {
+        0 => None,
+        o => Some(NodeId(o - 1)),
     }
-    Origin::Node(NodeId(o - 1))
 }
 
 // A variable's binding; open for what is no variable.
-pub fn bound_to(m: &[u16], c: Counts, v: VarId) -> Bound
+#[tactic(auto, using(std::proofs::lemmas::Bool::Decides::nat_tests), unfolding(crate::specs::View::bound_in, crate::specs::Memory::binding_at))]
+pub fn bound_to(m: &[u16], c: Counts, v: VarId) -> Option<TypeId>
     ensures { result ≡ bound_in m.now c v }
 {
-    let b = var_cell(m, c, v, 2);
-    if b == 1 {
-        let x = var_cell(m, c, v, 3);
-        return Bound::To(TypeId(x));
+    if var_cell(m, c, v, 2) == 1 {
+        Some(TypeId(var_cell(m, c, v, 3)))
+    } else {
+        None
     }
-    Bound::Open
 }
 
 // Whether a variable carries a negation mark.
+#[tactic(auto, using(std::proofs::lemmas::Bool::Decides::nat_tests), unfolding(crate::specs::Memory::mark_at))]
 pub fn is_marked(m: &[u16], c: Counts, v: VarId) -> bool
     ensures { result ≡ mark_at m.now c.vars v.0 }
 {
-    let k = var_cell(m, c, v, 4);
-    k == 1
+    var_cell(m, c, v, 4) == 1
 }
 
 // Sets a variable's negation mark; for what is no variable it changes nothing.
+#[tactic(auto, using(std::proofs::lemmas::Bool::Decides::nat_tests), unfolding(crate::specs::Made::marking))]
 pub fn mark(m: &mut [u16], c: Counts, v: VarId)
     ensures { m.new ≡ marking m.old c.vars v.0 }
 {
-    let i = v.0;
-    let n = c.vars;
-    if i < n {
-        memory_cells::write(m, i as usize * 5 + 4, 1);
+    if v.0 < c.vars {
+        memory_cells::write(m, v.0 as usize * 5 + 4, 1);
     }
 }
 
 // Binds a variable; for what is no variable it changes nothing. For `unify` alone: it does not look for cycles.
+#[tactic(auto, using(std::proofs::lemmas::Bool::Decides::nat_tests), unfolding(crate::specs::Made::binding, memory_cells::specs::Cells::binding_written))]
 pub fn bind(m: &mut [u16], c: Counts, v: VarId, z: TypeId)
     ensures { m.new ≡ binding m.old c.vars v.0 z.0 }
 {
-    let i = v.0;
-    let n = c.vars;
-    let b = z.0;
-    if i < n {
-        memory_cells::write_binding(m, i, b);
+    if v.0 < c.vars {
+        memory_cells::write_binding(m, v.0, z.0);
     }
 }
 
@@ -378,169 +367,122 @@ pub struct Made {
     pub ty: TypeId,
 }
 
+// Nothing made: the answer is row 0.
+fn not_made(c: Counts) -> Made
+    ensures { (result.counts ≡ c) × (result.ty.0 ≡ 0) }
+{
+    Made {
+        counts: c,
+        ty: TypeId(0),
+    }
+}
+
 fn kind_number(k: Kind) -> u16
     ensures { result ≡ kind_number k }
 {
-    match k {
-        Kind::Regular => 0,
-        Kind::Integer => 1,
-        Kind::Float => 2,
-    }
+    k as u16
 }
 
 // 0 for a literal, else the node's number plus one.
-fn origin_number(o: Origin) -> u16
+fn origin_number(o: Option<NodeId>) -> u16
     ensures { result ≡ origin_number o }
 {
     match o {
-        Origin::Literal => 0,
-        Origin::Node(n) => {
-            let i = n.0;
-            if i < 65535 { i + 1 } else { 0 }
-        }
-    }
-}
-
-// A new variable: the number of its row. Without room nothing changes, and the answer is row 0.
-pub fn draw(m: &mut [u16], c: Counts, k: Kind, o: Origin) -> Made
-    ensures { made result m.new ≡ draw_in m.old c k o }
-{
-    let v = c.vars;
-    let t = c.types;
-    let i = c.inputs;
-    if MOST_VARS <= v {
-        return Made {
-            counts: c,
-            ty: TypeId(0),
-        };
-    }
-    if MOST_TYPES <= t {
-        return Made {
-            counts: c,
-            ty: TypeId(0),
-        };
-    }
-    let a = kind_number(k);
-    let b = origin_number(o);
-    memory_cells::write_var(m, v, a, b);
-    memory_cells::write_row(m, t, HEAD_INFER_TY, v, 0, 0, 0);
-    Made {
-        counts: Counts {
-            types: t + 1,
-            vars: v + 1,
-            inputs: i,
-        },
-        ty: TypeId(t),
-    }
-}
-
-// Where the pool has the first row of a head and a number; 0 where it has none.
-fn pool_cell(h: u16, a: u16) -> usize
-    ensures { result ≡ pool_cell h a }
-{
-    match h {
-        HEAD_ARRAY => {
-            if a < MOST_TYPES {
-                return ARRAYS_AT + a as usize;
-            }
-            0
-        }
-        HEAD_REF => {
-            if a < MOST_TYPES {
-                return REFS_AT + a as usize;
-            }
-            0
-        }
-        HEAD_FN_DEF => {
-            if a < MOST_DEFS {
-                return DEFS_AT + a as usize;
-            }
-            0
-        }
-        HEAD_INSTANCE => {
-            if a < MOST_INSTANCES {
-                return INSTANCES_AT + a as usize;
-            }
-            0
-        }
+        Some(NodeId(n)) if n < u16::MAX => n + 1,
         _ => 0,
     }
 }
 
+// A new variable: the number of its row. Without room nothing changes, and the answer is row 0.
+#[tactic(auto, using(std::proofs::lemmas::Bool::Decides::nat_tests), unfolding(crate::specs::Made::draw_in))]
+pub fn draw(m: &mut [u16], c: Counts, k: Kind, o: Option<NodeId>) -> Made
+    ensures { made result m.new ≡ draw_in m.old c k o }
+{
+    if c.vars >= MOST_VARS || c.types >= MOST_TYPES {
+        return not_made(c);
+    }
+    memory_cells::write_var(m, c.vars, kind_number(k), origin_number(o));
+    memory_cells::write_row(m, c.types, HEAD_INFER_TY, c.vars, 0, 0, 0);
+    Made {
+        counts: Counts {
+            types: c.types + 1,
+            vars: c.vars + 1,
+            ..c
+        },
+        ty: TypeId(c.types),
+    }
+}
+
+// Where the pool has the first row of a head and a number, if it has a place for it.
+#[tactic(auto, using(std::proofs::lemmas::Bool::Decides::nat_tests), unfolding(crate::specs::Made::pool_cell))]
+fn pool_cell(h: u16, a: u16) -> Option<usize>
+    ensures { MatchOption result (pool_cell h a ≡ 0) (λ p. (p ≡ pool_cell h a) × (0 < p)) }
+{
+    match h {
+        HEAD_ARRAY if a < MOST_TYPES => Some(ARRAYS_AT + a as usize),
+        HEAD_REF if a < MOST_TYPES => Some(REFS_AT + a as usize),
+        HEAD_FN_DEF if a < MOST_DEFS => Some(DEFS_AT + a as usize),
+        HEAD_INSTANCE if a < MOST_INSTANCES => Some(INSTANCES_AT + a as usize),
+        _ => None,
+    }
+}
+
 // A new row. Without room nothing changes, and the answer is row 0.
+#[tactic(auto, using(std::proofs::lemmas::Bool::Decides::nat_tests), unfolding(crate::specs::Made::append_in))]
 fn append(m: &mut [u16], c: Counts, h: u16, a: u16, o: u16, r: InputRange) -> Made
     ensures { made result m.new ≡ append_in m.old c h a o r.first r.count }
 {
-    let t = c.types;
-    let v = c.vars;
-    let i = c.inputs;
-    if MOST_TYPES <= t {
-        return Made {
-            counts: c,
-            ty: TypeId(0),
-        };
+    if c.types >= MOST_TYPES {
+        return not_made(c);
     }
-    let f = r.first;
-    let k = r.count;
-    memory_cells::write_row(m, t, h, a, o, f, k);
+    memory_cells::write_row(m, c.types, h, a, o, r.first, r.count);
     Made {
         counts: Counts {
-            types: t + 1,
-            vars: v,
-            inputs: i,
+            types: c.types + 1,
+            ..c
         },
-        ty: TypeId(t),
+        ty: TypeId(c.types),
     }
 }
 
 // A new row that the pool shall have in the cell p.
+#[tactic(auto, using(std::proofs::lemmas::Bool::Decides::nat_tests), unfolding(crate::specs::Made::enter_in))]
 fn enter(m: &mut [u16], c: Counts, p: usize, h: u16, a: u16) -> Made
     ensures { made result m.new ≡ enter_in m.old c p h a }
 {
-    let t = c.types;
-    if MOST_TYPES <= t {
-        return Made {
-            counts: c,
-            ty: TypeId(0),
-        };
+    if c.types >= MOST_TYPES {
+        return not_made(c);
     }
-    memory_cells::write(m, p, t + 1);
+    memory_cells::write(m, p, c.types + 1);
     append(m, c, h, a, 0, InputRange { first: 0, count: 0 })
 }
 
 // The row of a head and a number that the pool has, else a new one.
+#[tactic(auto, using(std::proofs::lemmas::Bool::Decides::nat_tests), unfolding(crate::specs::Made::intern_in))]
 fn intern(m: &mut [u16], c: Counts, h: u16, a: u16) -> Made
     ensures { made result m.new ≡ intern_in m.old c h a }
 {
-    let p = pool_cell(h, a);
-    if p == 0 {
-        return Made {
+    let Some(p) = pool_cell(h, a) else {
+        return not_made(c);
+    };
+    match memory_cells::read(m, p) {
+        0 => enter(m, c, p, h, a),
+        x => Made {
             counts: c,
-            ty: TypeId(0),
-        };
-    }
-    let x = memory_cells::read(m, p);
-    if x == 0 {
-        return enter(m, c, p, h, a);
-    }
-    Made {
-        counts: c,
-        ty: TypeId(x - 1),
+            ty: TypeId(x - 1),
+        },
     }
 }
 
 // The type of a head that is made of the row e; for what is no row the answer is row 0.
+#[tactic(auto, using(std::proofs::lemmas::Bool::Decides::nat_tests), unfolding(crate::specs::Made::intern_of))]
 fn intern_of(m: &mut [u16], c: Counts, h: u16, e: TypeId) -> Made
     ensures { made result m.new ≡ intern_of m.old c h e.0 }
 {
-    let a = e.0;
-    let n = c.types;
-    if a < n {
-        return intern(m, c, h, a);
-    }
-    Made {
-        counts: c,
-        ty: TypeId(0),
+    if e.0 < c.types {
+        intern(m, c, h, e.0)
+    } else {
+        not_made(c)
     }
 }
 
@@ -562,78 +504,56 @@ pub fn ref_to(m: &mut [u16], c: Counts, e: TypeId) -> Made
 pub fn fn_def(m: &mut [u16], c: Counts, d: DefId) -> Made
     ensures { made result m.new ≡ intern_in m.old c fn_def_head d.0 }
 {
-    let a = d.0;
-    intern(m, c, HEAD_FN_DEF, a)
+    intern(m, c, HEAD_FN_DEF, d.0)
 }
 
 // The type of the instance k; of 64, or the answer is row 0.
 pub fn instance(m: &mut [u16], c: Counts, k: InstId) -> Made
     ensures { made result m.new ≡ intern_in m.old c instance_head k.0 }
 {
-    let a = k.0;
-    intern(m, c, HEAD_INSTANCE, a)
+    intern(m, c, HEAD_INSTANCE, k.0)
 }
 
 // The row x; row 0 for what is no row.
 pub fn clip(c: Counts, x: TypeId) -> TypeId
     ensures { result.0 ≡ clip·T c.types x.0 }
 {
-    let i = x.0;
-    let n = c.types;
-    if i < n { x } else { TypeId(0) }
+    if x.0 < c.types { x } else { TypeId(0) }
 }
 
 // One more input, for the function or lambda that is made next; what is no row is pushed as row 0. Without room nothing changes.
+#[tactic(auto, using(std::proofs::lemmas::Bool::Decides::nat_tests), unfolding(crate::specs::Made::push_in))]
 pub fn push_input(m: &mut [u16], c: Counts, x: TypeId) -> Counts
     ensures { pushed result m.new ≡ push_in m.old c x.0 }
 {
-    let t = c.types;
-    let v = c.vars;
-    let i = c.inputs;
-    if MOST_INPUTS <= i {
+    if c.inputs >= MOST_INPUTS {
         return c;
     }
-    let y = clip(c, x);
-    let b = y.0;
-    memory_cells::write(m, INPUTS_AT + i as usize, b);
+    memory_cells::write(m, INPUTS_AT + c.inputs as usize, clip(c, x).0);
     Counts {
-        types: t,
-        vars: v,
-        inputs: i + 1,
+        inputs: c.inputs + 1,
+        ..c
     }
 }
 
 // A new row of a head that has an output and inputs. Nothing changes, and the answer is row 0, if the output is no row, if an input that
 // r names is not there, or without room.
+#[tactic(auto, using(std::proofs::lemmas::Bool::Decides::nat_tests), unfolding(crate::specs::Made::parts_in))]
 fn append_parts(m: &mut [u16], c: Counts, h: u16, a: u16, o: TypeId, r: InputRange) -> Made
     ensures { made result m.new ≡ parts_in m.old c h a o.0 r.first r.count }
 {
-    let b = o.0;
-    let n = c.types;
-    let i = c.inputs;
-    let f = r.first;
-    let k = r.count;
-    if n <= b {
-        return Made {
-            counts: c,
-            ty: TypeId(0),
-        };
+    let end = r.first as u32 + r.count as u32;
+    if o.0 >= c.types || end > c.inputs as u32 {
+        return not_made(c);
     }
-    if (i as u32) < f as u32 + k as u32 {
-        return Made {
-            counts: c,
-            ty: TypeId(0),
-        };
-    }
-    append(m, c, h, a, b, r)
+    append(m, c, h, a, o.0, r)
 }
 
 // The type of the lambda of a node, with the inputs that stand at r. If a part of it is not there, the answer is row 0.
 pub fn lambda(m: &mut [u16], c: Counts, n: NodeId, o: TypeId, r: InputRange) -> Made
     ensures { made result m.new ≡ parts_in m.old c lambda_head n.0 o.0 r.first r.count }
 {
-    let a = n.0;
-    append_parts(m, c, HEAD_LAMBDA, a, o, r)
+    append_parts(m, c, HEAD_LAMBDA, n.0, o, r)
 }
 
 // The type of functions of a SPAN, with the inputs that stand at r. If a part of it is not there, the answer is row 0.
@@ -668,14 +588,11 @@ fn clear(m: &mut [u16])
     requires { cells ≤ length m.old }
     ensures { m.new ≡ cleared m.old pool_cells }
 {
-    let mut i = ARRAYS_AT;
-    while i < MEMORY {
-        m[i] = 0;
-        i += 1;
-    }
+    m[ARRAYS_AT..MEMORY].fill(0);
 }
 
 // The fourteen fixed types, and nothing else. A memory that is shorter than MEMORY stays as it is, and the answer is no row.
+#[tactic(auto, using(std::proofs::lemmas::Bool::Decides::nat_tests), unfolding(crate::specs::Made::start_in, crate::specs::Made::fixed_rows))]
 pub fn start(m: &mut [u16]) -> Counts
     ensures { pushed result m.new ≡ start_in m.old }
 {
@@ -687,13 +604,9 @@ pub fn start(m: &mut [u16]) -> Counts
         };
     }
     clear(m);
-    let mut x: u16 = 0;
-    while x < 14 {
+    for x in 0..14u16 {
         let i = x as usize;
-        let h = FIXED_HEADS[i];
-        let a = FIXED_WIDTHS[i];
-        memory_cells::write_row(m, x, h, a, 0, 0, 0);
-        x += 1;
+        memory_cells::write_row(m, x, FIXED_HEADS[i], FIXED_WIDTHS[i], 0, 0, 0);
     }
     Counts {
         types: 14,
@@ -707,28 +620,23 @@ pub fn follow(m: &[u16], c: Counts, x: TypeId) -> TypeId
     ensures { result.0 ≡ end_in m.now c x.0 }
 {
     let mut y = x;
-    let mut n = c.types as u32 + 1;
-    while 0 < n {
-        match onward(m, c, y) {
-            Bound::Open => {
-                return y;
-            }
-            Bound::To(z) => {
-                y = z;
-            }
-        }
-        n -= 1;
+    for _step in 0..c.types as u32 + 1 {
+        let Some(z) = onward(m, c, y) else {
+            return y;
+        };
+        y = z;
     }
     TypeId(12)
 }
 
 // What a row is bound to, if it is a variable.
-fn onward(m: &[u16], c: Counts, x: TypeId) -> Bound
+#[tactic(auto, using(std::proofs::lemmas::Bool::Decides::nat_tests), unfolding(crate::specs::View::onward_in))]
+fn onward(m: &[u16], c: Counts, x: TypeId) -> Option<TypeId>
     ensures { result ≡ onward_in m.now c x }
 {
-    let h = head(m, c, x);
-    if h == HEAD_INFER_TY {
-        return bound_to(m, c, var_of(m, c, x));
+    if head(m, c, x) == HEAD_INFER_TY {
+        bound_to(m, c, var_of(m, c, x))
+    } else {
+        None
     }
-    Bound::Open
 }

@@ -3,26 +3,25 @@
 // written, the same line says so. The exit status is 0 each time.
 #![tactic(auto)]
 
-use body_input::Input;
+use body_input::Console;
 
-// The report of the first n bytes of the input.
-fn run(out: &impl Print, err: &impl Print, buf: &[u8], n: usize) {
+// The report of a body.
+fn run<O: Print, E: Print>(console: &Console<'_, O, E>, body: &[u8]) {
     let mut text = [0u8; body_input::OUTPUT];
-    if n <= buf.len() {
-        let k = printed_report::put_report(&buf[0..n], &mut text);
-        body_input::put_output(out, err, &text, k, b"typereport");
-    }
+    let n = printed_report::put_report(body, &mut text);
+    console.put_output(&text, n);
 }
 
 // The body of standard input.
 fn main(rt: HostRuntime) {
+    let console = Console {
+        out: &rt,
+        err: &rt.stderr(),
+        program: "typereport",
+    };
     let mut buf = [0u8; body_input::INPUT];
     match body_input::read_input(&rt, &mut buf) {
-        Input::Bytes(n) => run(&rt, &rt.stderr(), &buf, n),
-        Input::Failed => body_input::complain(
-            &rt.stderr(),
-            b"typereport",
-            b"standard input cannot be read\n",
-        ),
+        Ok(n) => run(&console, &buf[..n]),
+        Err(_) => console.complain("standard input cannot be read"),
     }
 }

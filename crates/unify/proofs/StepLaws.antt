@@ -1,4 +1,5 @@
 -- One step: what each return of settle, chase, heed, meet, exchange, roles, variable and step shows.
+use Rattle.std.specs.Prelude.{None, Option, Some}
 use mathlib.Core.Path.{◌≡◌, refl, sym, ap, subst, ◌∙◌}
 use mathlib.Core.Logic.{◌≢◌, ◌⊎◌, inl, inr}
 use mathlib.Core.List.{List, [], ◌∷◌}
@@ -12,11 +13,8 @@ use Rattle.type_table.specs.declared.Counts.{Counts}
 use Rattle.type_table.specs.declared.TypeId.{TypeId}
 use Rattle.type_table.specs.declared.VarId.{VarId}
 use Rattle.type_table.specs.declared.Kind.{Kind}
-use Rattle.type_table.specs.declared.Kind.TheVariants.{Regular}
-use Rattle.type_table.specs.declared.Bound.{Bound}
-use Rattle.type_table.specs.declared.Bound.TheVariants.{To as To-as-B, Open}
+use Rattle.type_table.specs.declared.Kind.TheVariants.{Regular, Integer, Float}
 use Rattle.type_table.specs.Memory.{pick, head_at, number_at, mark_at, binds_of, marks_of, mem_of, Held}
-use borrow.Author.Tests.{ne_eqb}
 use borrow.Author.Tests.{eqb-true as test-true, eqb-false as test-false}
 use Rattle.type_table.specs.Made.{marking, binding}
 use Rattle.type_table.specs.View.{type, variable, kind_in, bound_in}
@@ -24,8 +22,6 @@ use Rattle.unify.specs.declared.Decision.{Decision}
 use Rattle.unify.specs.declared.Decision.TheVariants.{Same, Compare, Left, Right, Down, Swap, Differ}
 use Rattle.unify.specs.declared.Reply.{Reply}
 use Rattle.unify.specs.declared.Reply.TheVariants.{Success, Mismatch, Refused12, Refused13, Dry}
-use Rattle.unify.specs.declared.Meeting.{Meeting}
-use Rattle.unify.specs.declared.Meeting.TheVariants.{Of, Unfit}
 use Rattle.unify.specs.declared.Next.{Next}
 use Rattle.unify.specs.declared.Next.TheVariants.{Done, On, Into}
 use Rattle.search.specs.declared.Found.{Found}
@@ -60,12 +56,12 @@ module _ (m : List ℕ) (c : Counts) (v : VarId) (z : TypeId) (f : Found) (a : S
 
 -- ── its binding ──
 
-module _ (m : List ℕ) (c : Counts) (v : VarId) (b : Bound) (p : b ≡ bound_in m c v) where
-  pub chase_open : (z : TypeId) (w : List ℕ) (r : Reply) → b ≡ Open → Settled m c v z w r → Chased m c v z w (Done r)
+module _ (m : List ℕ) (c : Counts) (v : VarId) (b : Option TypeId) (p : b ≡ bound_in m c v) where
+  pub chase_open : (z : TypeId) (w : List ℕ) (r : Reply) → b ≡ None → Settled m c v z w r → Chased m c v z w (Done r)
   unfolding mem_of seek_in
   chase_open z w r e s held = record { frame = (s held).0; left_over = λ rec. rw (bound_open m c v b p e) (s held).1; enterable = tt }
 
-  pub chase_bound : (z x : TypeId) → b ≡ To-as-B x → Chased m c v z m (On x z)
+  pub chase_bound : (z x : TypeId) → b ≡ Some x → Chased m c v z m (On x z)
   unfolding mem_of
   chase_bound z x e held = record { frame = frame_same m c; left_over = λ rec. rw (bound_some m c v b p x e); enterable = tt }
 
@@ -150,36 +146,6 @@ module _ (m : List ℕ) (c : Counts) (v : VarId) (z : TypeId) where
           let g = a held in
           record { frame = g.frame; left_over = λ rec. rw (← ps, ns, ← marked_is, ← pk, e, pass_none (sym pk ∙ e)) (g.left_over rec); enterable = g.enterable }
 
-  -- no mark keeps it from meeting a signed row,
-  pub unsigned_signed : (k s : Bool) → k ≡ mark_at m c.vars v.0 → k ≡ true → Signed m c z s → s ≡ true → false ≡ unsigned_in m c v z
-  unfolding unsigned_in
-  unsigned_signed k s p e q f = rw (← p, e, ← q, f)
-
-  -- but from another,
-  pub unsigned_marked : (k s : Bool) → k ≡ mark_at m c.vars v.0 → k ≡ true → Signed m c z s → s ≡ false → true ≡ unsigned_in m c v z
-  unfolding unsigned_in
-  unsigned_marked k s p e q f = rw (← p, e, ← q, f)
-
-  -- where there is a mark
-  pub unsigned_unmarked : (k : Bool) → k ≡ mark_at m c.vars v.0 → k ≡ false → false ≡ unsigned_in m c v z
-  unfolding unsigned_in
-  unsigned_unmarked k p e = rw (← p, e)
-
-  -- a mark is passed on
-  pub passed_on : (k : Bool) (h u : ℕ) (w : List ℕ) → k ≡ mark_at m c.vars v.0 → k ≡ true → h ≡ head_at m c.types z.0 → h ≡ 12 → u ≡ number_at m c.types z.0 → w ≡ marking m c.vars u → w ≡ passed_in m c v z
-  unfolding passed_in
-  passed_on k h u w p e q d f g = rw (← p, e, ← q, d, ← f, g)
-
-  -- or not: to what is no variable
-  pub passed_other : (k : Bool) (h : ℕ) → k ≡ mark_at m c.vars v.0 → k ≡ true → h ≡ head_at m c.types z.0 → h ≢ 12 → m ≡ passed_in m c v z
-  unfolding passed_in
-  passed_other k h p e q d = rw (← p, e, ← q, ne_eqb h 12 d)
-
-  -- or there is none
-  pub passed_none : (k : Bool) → k ≡ mark_at m c.vars v.0 → k ≡ false → m ≡ passed_in m c v z
-  unfolding passed_in
-  passed_none k p e = rw (← p, e)
-
   module _ (s : Bool) (ps : SameVar m c v z s) (ns : s ≡ false) where
     -- a mark keeps it from meeting the row: 13
     pub meet_unsigned : (b : Bool) → b ≡ unsigned_in m c v z → b ≡ true → Met m c v z m (Done Refused13)
@@ -209,7 +175,7 @@ module _ (m : List ℕ) (c : Counts) (v : VarId) (z : TypeId) where
 
 -- the kind test of x's variable against the row z failed
 module _ (m : List ℕ) (c : Counts) (x z : TypeId) (h : ℕ) (p : h ≡ head_at m c.types z.0) where
-  pub exchange_none : h ≢ 12 → Exchanges m c x z Unfit
+  pub exchange_none : h ≢ 12 → Exchanges m c x z None
   unfolding act at_var
   exchange_none d v e f rec =
       let o : exchanged (kinds_in m c) (as_var (row_in m c x)) (as_var (row_in m c z)) ≡ false = rw (no_var_row m c.types z.0 (rw p at d)) (none_kept (kinds_in m c) (as_var (row_in m c x))) in
@@ -220,7 +186,7 @@ module _ (m : List ℕ) (c : Counts) (x z : TypeId) (h : ℕ) (p : h ≡ head_at
     as_var_z = ap as_var (row_var m c z h p u e q)
 
     -- z is the variable of the step
-    pub exchange_regular : k ≡ Regular → Exchanges m c x z (Of (variable u) x)
+    pub exchange_regular : k ≡ Regular → Exchanges m c x z (Some ((variable u), x))
     unfolding act at_var
     exchange_regular r v a f rec =
         let i : kind (kinds_in m c) u ≡ regular = sym (kind_in_lem m c u k pk) ∙ ap kind_k r in
@@ -229,15 +195,19 @@ module _ (m : List ℕ) (c : Counts) (x z : TypeId) (h : ℕ) (p : h ≡ head_at
         rw (o, as_var_z, i, regular_fits (kinds_in m c) (row_in m c x))
 
     -- two number variables that do not fit
-    pub exchange_number : (l : Kind) → k ≡ l → is_regular (kind_k l) ≡ false → Exchanges m c x z Unfit
+    exchange_number : (l : Kind) → k ≡ l → is_regular (kind_k l) ≡ false → Exchanges m c x z None
     unfolding act at_var
     exchange_number l r n v a f rec =
         let i : is_regular (kind (kinds_in m c) u) ≡ false = rw (← (kind_in_lem m c u k pk), r) n in
         let o : exchanged (kinds_in m c) (as_var (row_in m c x)) (as_var (row_in m c z)) ≡ false = rw (a, as_var_z) (number_kept (kind (kinds_in m c) v) (kind (kinds_in m c) u) i) in
         rw (o, a, f)
 
+    pub exchange_numbers : (k ≡ Integer) ⊎ (k ≡ Float) → Exchanges m c x z None
+    exchange_numbers (inl e) = exchange_number Integer e refl
+    exchange_numbers (inr e) = exchange_number Float e refl
+
 module _ (m : List ℕ) (c : Counts) (x z : TypeId) (h : ℕ) (p : h ≡ head_at m c.types x.0) where
-  pub roles_none : h ≢ 12 → HasRoles m c x z Unfit
+  pub roles_none : h ≢ 12 → HasRoles m c x z None
   unfolding act at_var
   roles_none d rec =
       let n = no_var_row m c.types x.0 (rw p at d) in
@@ -251,25 +221,25 @@ module _ (m : List ℕ) (c : Counts) (x z : TypeId) (h : ℕ) (p : h ≡ head_at
     test : fits (kinds_in m c) (kind (kinds_in m c) u) (row_in m c z) ≡ t
     test = rw (← (kind_in_lem m c u k pk)) (pl (kind_k k)) ∙ sym pt
 
-    pub roles_fit : t ≡ true → HasRoles m c x z (Of (variable u) z)
+    pub roles_fit : t ≡ true → HasRoles m c x z (Some ((variable u), z))
     unfolding act at_var
     roles_fit f rec =
         let o : exchanged (kinds_in m c) (as_var (row_in m c x)) (as_var (row_in m c z)) ≡ false = rw as_u (fits_kept (kinds_in m c) u (row_in m c z) (test ∙ f)) in
         rw (o, as_u, test, f)
 
-    pub roles_unfit : t ≡ false → (r : Meeting) → Exchanges m c x z r → HasRoles m c x z r
+    pub roles_unfit : t ≡ false → (r : Option (VarId × TypeId)) → Exchanges m c x z r → HasRoles m c x z r
     roles_unfit f r a = a u as_u (test ∙ f)
 
 -- the meeting takes its course
-pub variable_meets : (m : List ℕ) (c : Counts) (x z : TypeId) (r : Meeting) (v : VarId) (y : TypeId) (w : List ℕ) (n : Next) → HasRoles m c x z r → r ≡ Of v y → Met m c v y w n → Varied m c x z w n
+pub variable_meets : (m : List ℕ) (c : Counts) (x z : TypeId) (r : Option (VarId × TypeId)) (v : VarId) (y : TypeId) (w : List ℕ) (n : Next) → HasRoles m c x z r → r ≡ Some (v, y) → Met m c v y w n → Varied m c x z w n
 variable_meets m c x z r v y w n a e b held =
     let g = b held in
-    let a' : HasRoles m c x z (Of v y) = rw e at a in
+    let a' : HasRoles m c x z (Some (v, y)) = rw e at a in
     record { frame = g.frame; left_over = λ rec. a' rec ∙ g.left_over rec; enterable = g.enterable }
 
 -- the kind test failed
-pub variable_unfit : (m : List ℕ) (c : Counts) (x z : TypeId) (r : Meeting) → HasRoles m c x z r → r ≡ Unfit → Varied m c x z m (Done Mismatch)
-variable_unfit m c x z r a e held = let a' : HasRoles m c x z Unfit = rw e at a in record { frame = frame_same m c; left_over = λ rec. a' rec; enterable = tt }
+pub variable_unfit : (m : List ℕ) (c : Counts) (x z : TypeId) (r : Option (VarId × TypeId)) → HasRoles m c x z r → r ≡ None → Varied m c x z m (Done Mismatch)
+variable_unfit m c x z r a e held = let a' : HasRoles m c x z None = rw e at a in record { frame = frame_same m c; left_over = λ rec. a' rec; enterable = tt }
 
 -- ── steps 1 to 5 ──
 

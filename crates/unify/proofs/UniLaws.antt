@@ -2,15 +2,16 @@
 use mathlib.Core.Path.{◌≡◌, refl, sym, ap, ◌∙◌}
 use mathlib.Core.Logic.{◌≢◌}
 use mathlib.Core.List.{List, ◌∷◌}
-use mathlib.Core.Bool.{Bool, true, false, cond}
+use mathlib.Core.Bool.{Bool, true, false, cond, not}
+use denote.Enum.Bare.{sameb}
+use Rattle.unify.specs.contracts.Reply.{the_type}
 use Prim.Native.Nat.{ℕ, suc, zero, ◌+◌, ◌-◌, ◌≤◌, ◌<◌}
 use native.Mathlib.Omega.{arith}
-use native.Mathlib.Numerals.{add-one, sub-one}
 use lib.ListN.{length, take}
 use lib.Dec.{eqb, ltb}
 use borrow.Author.Tests.{eq-eqb, ne_eqb, lt-ltb, le-ltb}
 use native.Mathlib.Decide.{dec_lt}
-use Rattle.theory.specs.Rules.{success, mismatch, dry, numbers_of, Mem, Res, row, kids, split, zip, go, perform, each, and_then, move, unify}
+use Rattle.theory.specs.Rules.{success, mismatch, numbers_of, Mem, Res, row, kids, split, zip, go, perform, each, and_then, move, unify}
 use Rattle.type_table.specs.declared.Counts.{Counts}
 use Rattle.type_table.specs.declared.TypeId.{TypeId}
 use Rattle.type_table.specs.declared.InputRange.{InputRange}
@@ -24,26 +25,33 @@ use Rattle.unify.specs.declared.Next.{Next}
 use Rattle.unify.specs.declared.Next.TheVariants.{Done, On, Into}
 use Rattle.unify.specs.Leaf.{out_k}
 use Rattle.unify.specs.Step.{Rec, resume, Parted, Stepped}
-use Rattle.unify.specs.Unify.{is_success, Ran, by, Unified, Entered, Eached, answer_of}
+use Rattle.unify.specs.Unify.{Ran, by, Unified, Entered, Eached, answer_of}
 use Rattle.unify.specs.Frames.{frame_same, frame_trans, held_on, rows_same, kinds_same, inputs_same}
 use Rattle.unify.specs.Steps.{steps, fuel_is}
 use Rattle.unify.specs.Promise.{Frame, Solved, answer_is, held_in, kinds_in, mem_in, numbers, rows_in, solve_in}
 
+-- what the code's test of an answer shows
+pub is_met : (a : Reply) → false ≡ not (sameb the_type a Success) → a ≡ Success
+is_met Success h = refl
+is_met Mismatch h = absurd (let y : ◌≡◌ {A = Bool} true false = sym h in cc)
+is_met Refused12 h = absurd (let y : ◌≡◌ {A = Bool} true false = sym h in cc)
+is_met Refused13 h = absurd (let y : ◌≡◌ {A = Bool} true false = sym h in cc)
+is_met Dry h = absurd (let y : ◌≡◌ {A = Bool} true false = sym h in cc)
+
+pub is_other : (a : Reply) → true ≡ not (sameb the_type a Success) → a ≢ Success
+is_other a h e = let y : ◌≡◌ {A = Bool} true false = rw e at h in cc
+
 -- a success goes on
-goes_on : (a : Reply) (m : Mem) (f : Mem → Res) → is_success a ≡ true → and_then (out_k a, m) f ≡ f m
-goes_on Success m f e = refl
-goes_on Mismatch m f e = let y : ◌≡◌ {A = Bool} true false = sym e in cc
-goes_on Refused12 m f e = let y : ◌≡◌ {A = Bool} true false = sym e in cc
-goes_on Refused13 m f e = let y : ◌≡◌ {A = Bool} true false = sym e in cc
-goes_on Dry m f e = let y : ◌≡◌ {A = Bool} true false = sym e in cc
+goes_on : (a : Reply) (m : Mem) (f : Mem → Res) → a ≡ Success → and_then (out_k a, m) f ≡ f m
+goes_on a m f e = rw e
 
 -- anything else stops
-stops : (a : Reply) (m : Mem) (f : Mem → Res) → is_success a ≡ false → and_then (out_k a, m) f ≡ (out_k a, m)
-stops Success m f e = let y : ◌≡◌ {A = Bool} true false = e in cc
-stops Mismatch m f e = refl
-stops Refused12 m f e = refl
-stops Refused13 m f e = refl
-stops Dry m f e = refl
+stops : (a : Reply) (m : Mem) (f : Mem → Res) → a ≢ Success → and_then (out_k a, m) f ≡ (out_k a, m)
+stops Success m f d = absurd (d refl)
+stops Mismatch m f d = refl
+stops Refused12 m f d = refl
+stops Refused13 m f d = refl
+stops Dry m f d = refl
 
 -- how the rows are unified stays the same within a frame
 by_same : (m : List ℕ) (c : Counts) (w : List ℕ) → Frame m c w → Held m c → (n : ℕ) → by w c n ≡ by m c n
@@ -58,46 +66,36 @@ EachLoop m₀ c first second count n m f g k =
     ≡ each (rows_in m₀ c) (kinds_in m₀ c) (by m₀ c n) (zip (inputs_from m₀ f k) (inputs_from m₀ g k)) success (mem_in m c))
 
 module _ (m₀ : List ℕ) (c : Counts) (first second count n : ℕ) where
-  pub each_start : EachLoop m₀ c first second count n m₀ first second count
-  each_start held = (frame_same m₀ c, refl)
+  pub each_start : (f g k : ℕ) → f ≡ first → g ≡ second → k ≡ count → EachLoop m₀ c first second count n m₀ f g k
+  each_start f g k p q r held = (frame_same m₀ c, rw (p, q, r))
 
   module _ (m : List ℕ) (f g k : ℕ) (l : EachLoop m₀ c first second count n m f g k) where
-    pub each_end : k ≤ 0 → Eached m₀ c first second count n m Success
+    pub each_end : k ≡ 0 → Eached m₀ c first second count n m Success
     unfolding inputs_from
-    each_end h held = ((l held).0, (l held).1 ∙ by0 k h)
-      where
-        by0 : (k : ℕ) → k ≤ 0 → each (rows_in m₀ c) (kinds_in m₀ c) (by m₀ c n) (zip (inputs_from m₀ f k) (inputs_from m₀ g k)) success (mem_in m c) ≡ (success, mem_in m c)
-        by0 zero h = refl
-        by0 (suc k) h = absurd (omega arith)
+    each_end h held = ((l held).0, (l held).1 ∙ rw h)
 
-    module _ (h : 0 < k) (x y : TypeId) (px : x.0 ≡ cell m (inputs_at + f)) (py : y.0 ≡ cell m (inputs_at + g)) (w : List ℕ) (a : Reply) (u : Unified m c x y n w a) where
+    module _ (f' g' j : ℕ) (ef : f' ≡ suc f) (eg : g' ≡ suc g) (h : k ≡ suc j) (x y : TypeId) (px : x.0 ≡ cell m (inputs_at + f)) (py : y.0 ≡ cell m (inputs_at + g)) (w : List ℕ) (a : Reply) (u : Unified m c x y n w a) where
       -- the first pair's answer, and then the others
       first_pair : (held : Held m₀ c) → Frame m₀ c w × (each (rows_in m₀ c) (kinds_in m₀ c) (by m₀ c n) (zip (inputs_from m₀ f k) (inputs_from m₀ g k)) success (mem_in m c)
-          ≡ and_then (out_k a, mem_in w c) (λ t. each (rows_in m₀ c) (kinds_in m₀ c) (by m₀ c n) (zip (inputs_from m₀ (f + 1) (k - 1)) (inputs_from m₀ (g + 1) (k - 1))) success t))
+          ≡ and_then (out_k a, mem_in w c) (λ t. each (rows_in m₀ c) (kinds_in m₀ c) (by m₀ c n) (zip (inputs_from m₀ f' j) (inputs_from m₀ g' j)) success t))
       unfolding inputs_from
       first_pair held =
           let fr : Frame m₀ c m = (l held).0 in
           let r = u (held_on m₀ c m fr held) in
           let s : by m c n ≡ by m₀ c n = by_same m₀ c m fr held n in
           let e : by m₀ c n (mem_in m c) x.0 y.0 ≡ (out_k a, mem_in w c) = ap (λ (q : Rec). q (mem_in m c) x.0 y.0) (sym s) ∙ r.1 in
-          let i : x.0 ≡ cell m₀ (inputs_at + f) = px ∙ fr_cell fr held f in
-          let j : y.0 ≡ cell m₀ (inputs_at + g) = py ∙ fr_cell fr held g in
-          (frame_trans m₀ c m w fr r.0, unrolled k h i j e)
+          let ix : x.0 ≡ cell m₀ (inputs_at + f) = px ∙ fr_cell fr held f in
+          let iy : y.0 ≡ cell m₀ (inputs_at + g) = py ∙ fr_cell fr held g in
+          (frame_trans m₀ c m w fr r.0, rw (h, ef, eg, ← ix, ← iy, e))
         where
           fr_cell : Frame m₀ c m → Held m₀ c → (z : ℕ) → cell m (inputs_at + z) ≡ cell m₀ (inputs_at + z)
           fr_cell fr held z = fr.same (inputs_at + z) (λ v b p q r t. omega (arith, held.vars))
 
-          unrolled : (k : ℕ) → 0 < k → x.0 ≡ cell m₀ (inputs_at + f) → y.0 ≡ cell m₀ (inputs_at + g) → by m₀ c n (mem_in m c) x.0 y.0 ≡ (out_k a, mem_in w c)
-              → each (rows_in m₀ c) (kinds_in m₀ c) (by m₀ c n) (zip (inputs_from m₀ f k) (inputs_from m₀ g k)) success (mem_in m c)
-              ≡ and_then (out_k a, mem_in w c) (λ t. each (rows_in m₀ c) (kinds_in m₀ c) (by m₀ c n) (zip (inputs_from m₀ (f + 1) (k - 1)) (inputs_from m₀ (g + 1) (k - 1))) success t)
-          unrolled zero h i j e = absurd (omega arith)
-          unrolled (suc k) h i j e = rw (add-one, add-one, sub-one, ← i, ← j, e)
+      pub each_more : a ≡ Success → EachLoop m₀ c first second count n w f' g' j
+      each_more e held = let r = first_pair held in (r.0, (l held).1 ∙ r.1 ∙ goes_on a (mem_in w c) (λ t. each (rows_in m₀ c) (kinds_in m₀ c) (by m₀ c n) (zip (inputs_from m₀ f' j) (inputs_from m₀ g' j)) success t) e)
 
-      pub each_more : is_success a ≡ true → EachLoop m₀ c first second count n w (f + 1) (g + 1) (k - 1)
-      each_more e held = let r = first_pair held in (r.0, (l held).1 ∙ r.1 ∙ goes_on a (mem_in w c) (λ t. each (rows_in m₀ c) (kinds_in m₀ c) (by m₀ c n) (zip (inputs_from m₀ (f + 1) (k - 1)) (inputs_from m₀ (g + 1) (k - 1))) success t) e)
-
-      pub each_stop : is_success a ≡ false → Eached m₀ c first second count n w a
-      each_stop e held = let r = first_pair held in (r.0, (l held).1 ∙ r.1 ∙ stops a (mem_in w c) (λ t. each (rows_in m₀ c) (kinds_in m₀ c) (by m₀ c n) (zip (inputs_from m₀ (f + 1) (k - 1)) (inputs_from m₀ (g + 1) (k - 1))) success t) e)
+      pub each_stop : a ≢ Success → Eached m₀ c first second count n w a
+      each_stop e held = let r = first_pair held in (r.0, (l held).1 ∙ r.1 ∙ stops a (mem_in w c) (λ t. each (rows_in m₀ c) (kinds_in m₀ c) (by m₀ c n) (zip (inputs_from m₀ f' j) (inputs_from m₀ g' j)) success t) e)
 
 -- ── outputs, then lengths, then inputs ──
 
@@ -128,14 +126,14 @@ module _ (m : List ℕ) (c : Counts) (x y : TypeId) (n : ℕ) (o p : TypeId) (r 
       by0 true = rw (u held).1
       by0 false = rw (u held).1
 
-  pub into_stop : is_success a ≡ false → Entered m c x y n w a
+  pub into_stop : a ≢ Success → Entered m c x y n w a
   into_stop e held q = ((u held).0, sides q ∙ split_as held ∙ stops a (mem_in w c) (λ t. rest (eqb (suc r.count) (suc s.count)) t) e)
 
-  pub into_lengths : is_success a ≡ true → r.count ≢ s.count → Entered m c x y n w Mismatch
+  pub into_lengths : a ≡ Success → r.count ≢ s.count → Entered m c x y n w Mismatch
   into_lengths e d held q =
       ((u held).0, sides q ∙ split_as held ∙ goes_on a (mem_in w c) (λ t. rest (eqb (suc r.count) (suc s.count)) t) e ∙ rw (ne_eqb (suc r.count) (suc s.count) (λ i. d (omega arith))))
 
-  pub into_inputs : (w₂ : List ℕ) (b : Reply) → is_success a ≡ true → r.count ≡ s.count → Eached w c r.first s.first r.count n w₂ b → Entered m c x y n w₂ b
+  pub into_inputs : (w₂ : List ℕ) (b : Reply) → a ≡ Success → r.count ≡ s.count → Eached w c r.first s.first r.count n w₂ b → Entered m c x y n w₂ b
   into_inputs w₂ b e i t held q =
       let fr : Frame m c w = (u held).0 in
       let g = t (held_on m c w fr held) in
@@ -159,13 +157,9 @@ module _ (m₀ : List ℕ) (c : Counts) (a₀ b₀ : TypeId) (n : ℕ) where
   loop-start held = (frame_same m₀ c, refl)
 
   module _ (m : List ℕ) (a b : TypeId) (k : ℕ) (l : Loop m₀ c a₀ b₀ n m a b k) where
-    pub loop_dry : k ≤ 0 → Unified m₀ c a₀ b₀ n m Dry
+    pub loop_dry : k ≡ 0 → Unified m₀ c a₀ b₀ n m Dry
     unfolding unify
-    loop_dry h held = ((l held).0, (l held).1 ∙ by0 k h)
-      where
-        by0 : (k : ℕ) → k ≤ 0 → by m₀ c k (mem_in m c) a.0 b.0 ≡ (dry, mem_in m c)
-        by0 zero h = refl
-        by0 (suc k) h = absurd (omega arith)
+    loop_dry h held = ((l held).0, (l held).1 ∙ rw h)
 
     module _ (h : 0 < k) (w : List ℕ) (r : Next) (s : Stepped m c a b w r) where
       -- one step is done

@@ -1,10 +1,9 @@
 -- The memory's cells and the rules' tables: what an operation reads is what the rules read.
-use Rattle.std.specs.Prelude.{◌≡◌, ◌≢◌, List, [], ◌∷◌, Bool, false, ◌||◌, ℕ, suc, zero, ◌+◌, ◌-◌, ◌≤◌, ◌<◌, eqb, ltb}
+use Rattle.std.specs.Prelude.{◌≡◌, ◌≢◌, List, Bool, false, ◌||◌, ℕ, suc, zero, ◌+◌, ◌-◌, ◌≤◌, ◌<◌, eqb, ltb}
 use Rattle.std.proofs.Math.Path.{refl, ap₂}
 use Rattle.std.proofs.Common.{sym, ap, ◌∙◌, arith, eq-eqb, ne_eqb, lt-ltb, le-ltb}
-use Rattle.std.proofs.Math.Option.{none, some}
 use Rattle.std.proofs.Math.Decide.{ℕ_discrete, dec_lt}
-use Rattle.theory.specs.Rules.{Width, w8, w16, w32, w64, Base, bool, nil, float, double, uint, int, inst, Shape, base, head, row, kind, fits, base_fits, kind_fits, is_regular, signed, alike, is_yes, base_discrete, width_discrete, regular, integer, floating}
+use Rattle.theory.specs.Rules.{Width, w8, w16, w32, w64, Base, bool, nil, float, double, uint, int, inst, Shape, base, row, fits, base_fits, kind_fits, is_regular, signed, alike, is_yes, base_discrete, width_discrete, regular, integer, floating}
 use Rattle.theory.specs.Rules.{Kind as KindT}
 use Rattle.type_table.specs.Memory.{pick, head_at, number_at, output_at, first_at, count_at, inputs_from, width_of, shape_of, shape_at, rows_of}
 use Rattle.type_table.specs.Tables.{row_at}

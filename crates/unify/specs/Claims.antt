@@ -1,6 +1,6 @@
 -- What the library claims, one citation each: first of the code's promises, then of the rules. Each assumption is an argument of the statement.
 -- The contracts in src/lib.rt of `type_table` and `unify` cite the definitions Memory, View and Made there and Promise here.
-use Rattle.std.specs.Prelude.{◌≡◌, ◌≢◌, ◌↔◌, List, [], ◌∷◌, ◌++◌, map, true, false, ℕ, ◌<◌, length}
+use Rattle.std.specs.Prelude.{◌≡◌, ◌≢◌, ◌↔◌, List, [], ◌∷◌, ◌++◌, map, true, false, ℕ, ◌<◌, length, None}
 use Rattle.std.proofs.Math.Option.{none, some}
 use Rattle.theory.specs.Rules.{Shape, Kind, success, refused13, Mem, Pair, row, unify}
 use Rattle.theory.specs.Program.{Equation, St, Prog, made_of, equal_rows, first_equal, run, raised, solve, solved}
@@ -15,7 +15,6 @@ use Rattle.theory.specs.Table.{table, outcome, stated}
 use Rattle.theory.proofs.Claims as rules
 use Rattle.type_table.specs.declared.Counts.{Counts}
 use Rattle.type_table.specs.declared.TypeId.{TypeId}
-use Rattle.type_table.specs.declared.Bound.TheVariants.{Open}
 use Rattle.type_table.specs.View.{type, onward_in, end_or, end_in}
 use Rattle.type_table.specs.Sound.{Sound, state_of}
 use Rattle.type_table.specs.Promises.{follow_promise}
@@ -67,7 +66,7 @@ a_way_agrees = meaning.agreeing_way
 -- ── 3. following bindings to their end ──
 
 -- the end is no bound variable
-pub end_is_open : (m : List ℕ) (c : Counts) → Sound m c → (x : ℕ) → onward_in m c (type (end_in m c x)) ≡ Open
+pub end_is_open : (m : List ℕ) (c : Counts) → Sound m c → (x : ℕ) → onward_in m c (type (end_in m c x)) ≡ None
 end_is_open m c sound = follow_promise sound
 
 -- and it is reached: whatever row d stands for bindings without an end, and with any more steps k, it is the same

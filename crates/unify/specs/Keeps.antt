@@ -15,7 +15,7 @@ use Rattle.theory.proofs.Keep.{solve_kept}
 use Rattle.theory.specs.Demand.{clip_in}
 use Rattle.type_table.specs.declared.Counts.{Counts}
 use Rattle.type_table.specs.declared.TypeId.{TypeId}
-use Rattle.type_table.specs.Memory.{pick, cell, cells, most_types, most_vars, counts, binding_at, mark_at, binds_of, mem_of, origins_of, Held}
+use Rattle.type_table.specs.Memory.{pick, cell, cells, most_types, most_vars, binding_at, mark_at, binds_of, mem_of, origins_of, Held}
 use Rattle.type_table.specs.Tables.{bound_at, mark_at_lem, length-rows}
 use Rattle.type_table.specs.Frames.{origins_kept}
 use Rattle.type_table.specs.Sound.{Sound, state_of}

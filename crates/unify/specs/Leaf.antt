@@ -1,6 +1,6 @@
 -- What the leaves answer: the kind test, the mark's test, the choice of the step, step 1's comparison.
 use Rattle.std.specs.Prelude.{◌≡◌, List, Bool, cond, ℕ, ◌+◌, eqb, ltb}
-use Rattle.theory.specs.Rules.{Step, same, compare, left, right, down, swap, differ, Out, success, mismatch, refused12, refused13, dry, row, as_var, fits, kind_fits, signed, is_same, alike, regular, integer, floating}
+use Rattle.theory.specs.Rules.{Step, same, compare, left, right, down, swap, differ, Out, success, mismatch, refused12, refused13, dry, as_var, fits, kind_fits, signed, is_same, alike, regular, integer, floating}
 use Rattle.theory.specs.Rules.{Kind as KindT}
 use Rattle.type_table.specs.declared.Counts.{Counts}
 use Rattle.type_table.specs.declared.TypeId.{TypeId}

@@ -1,5 +1,5 @@
 -- One step of unification in the memory: what is left to do, and what stays as it was.
-use Rattle.std.specs.Prelude.{◌≡◌, List, ◌∷◌, Bool, true, false, not, ◌&&◌, ℕ, eqb}
+use Rattle.std.specs.Prelude.{◌≡◌, List, ◌∷◌, Bool, true, false, not, ◌&&◌, ℕ, eqb, None, Option, Some}
 use Rattle.std.proofs.Math.Option.{some}
 use Rattle.theory.specs.Rules.{Shape, Mem, Res, row, as_var, kids, bound, is_same, signed, mismatch, fits, kind, left, exchanged, roles, split, act, perform, move, other, heed, chase, settle}
 use Rattle.theory.specs.Rules.{Kind as KindT}
@@ -10,8 +10,6 @@ use Rattle.type_table.specs.Memory.{pick, head_at, number_at, output_at, first_a
 use Rattle.type_table.specs.Made.{marking}
 use Rattle.type_table.specs.View.{type}
 use Rattle.unify.specs.declared.Reply.{Reply}
-use Rattle.unify.specs.declared.Meeting.{Meeting}
-use Rattle.unify.specs.declared.Meeting.TheVariants.{Of, Unfit}
 use Rattle.unify.specs.declared.Next.{Next}
 use Rattle.unify.specs.declared.Next.TheVariants.{Done, On, Into}
 use Rattle.unify.specs.Leaf.{out_k}
@@ -73,12 +71,12 @@ abbrev pub third_step : List ℕ → Counts → TypeId → TypeId → Rec → Re
 third_step m c x z rec = perform (rows_in m c) (kinds_in m c) rec (mem_in m c) (act x.0 z.0 (row_in m c x) (row_in m c z) (roles (exchanged (kinds_in m c) (as_var (row_in m c x)) (as_var (row_in m c z))) left))
 
 -- what `roles` answers: the variable v of step 3 and the row y that it meets, the kind test passed; or the mismatch of a test that failed
-abbrev pub HasRoles : List ℕ → Counts → TypeId → TypeId → Meeting → Type 0
-HasRoles m c x z (Of v y) = (rec : Rec) → third_step m c x z rec ≡ other (rows_in m c) (kinds_in m c) rec (mem_in m c) v.0 y.0 (is_same v.0 (as_var (row_in m c y)))
-HasRoles m c x z Unfit = (rec : Rec) → third_step m c x z rec ≡ (mismatch, mem_in m c)
+abbrev pub HasRoles : List ℕ → Counts → TypeId → TypeId → Option (VarId × TypeId) → Type 0
+HasRoles m c x z (Some (v, y)) = (rec : Rec) → third_step m c x z rec ≡ other (rows_in m c) (kinds_in m c) rec (mem_in m c) v.0 y.0 (is_same v.0 (as_var (row_in m c y)))
+HasRoles m c x z None = (rec : Rec) → third_step m c x z rec ≡ (mismatch, mem_in m c)
 
 -- what `exchange` answers: the same, where the row x is that of a variable whose kind test against the row z fails
-abbrev pub Exchanges : List ℕ → Counts → TypeId → TypeId → Meeting → Type 0
+abbrev pub Exchanges : List ℕ → Counts → TypeId → TypeId → Option (VarId × TypeId) → Type 0
 Exchanges m c x z r = (v : ℕ) → as_var (row_in m c x) ≡ some v → fits (kinds_in m c) (kind (kinds_in m c) v) (row_in m c z) ≡ false → HasRoles m c x z r
 
 -- what `variable` does: step 3

@@ -1,5 +1,5 @@
 -- What the inner functions of unification do: as the rules, of every memory that holds its counts.
-use Rattle.std.specs.Prelude.{◌≡◌, List, Bool, true, false, ℕ}
+use Rattle.std.specs.Prelude.{◌≡◌, List, ℕ}
 use Rattle.theory.specs.Rules.{success, Res, row, kids, split, perform, each, zip, unify}
 use Rattle.type_table.specs.declared.Counts.{Counts}
 use Rattle.type_table.specs.declared.TypeId.{TypeId}
@@ -11,14 +11,6 @@ use Rattle.unify.specs.declared.Reply.TheVariants.{Success, Mismatch, Refused12,
 use Rattle.unify.specs.Leaf.{out_k}
 use Rattle.unify.specs.Step.{Rec, Parted}
 use Rattle.unify.specs.Promise.{Frame, kinds_in, mem_in, rows_in}
-
--- success goes on, anything else ends
-abbrev pub is_success : Reply → Bool
-is_success Success = true
-is_success Mismatch = false
-is_success Refused12 = false
-is_success Refused13 = false
-is_success Dry = false
 
 -- from the memory m to w with the answer a: that is F
 abbrev pub Ran : List ℕ → Counts → List ℕ → Reply → Res → Type 0

@@ -1,20 +1,13 @@
 -- The typing rules that type other nodes: each is a program over E, which types a child; the recursion stands in `typeck_expr` alone. Definitions alone.
 use Rattle.std.proofs.Math.Option.{Option, none, some}
-use Rattle.std.specs.Prelude.{cond, ℕ, suc, zero, ◌+◌, ◌-◌, eqb}
+use Rattle.std.specs.Prelude.{cond, ℕ, suc, zero, ◌+◌, ◌-◌, eqb, None, Option as Option·R, Some}
 use Rattle.theory.specs.Rules.{integer, floating}
 use Rattle.theory.specs.Program.{done, refuse, ◌>>=◌}
-use Rattle.nodes.specs.declared.MaybeType.{MaybeType}
-use Rattle.nodes.specs.declared.MaybeNode.{MaybeNode}
-use Rattle.nodes.specs.declared.MaybeNode.TheVariants as node
 use Rattle.nodes.specs.declared.Items.{Items}
 use Rattle.nodes.specs.declared.BinOp.{BinOp}
 use Rattle.nodes.specs.declared.UnOp.{UnOp}
 use Rattle.nodes.specs.declared.Callee.{Callee}
 use Rattle.nodes.specs.declared.Callee.TheVariants as callee
-use Rattle.nodes.specs.declared.Local.{Local}
-use Rattle.nodes.specs.declared.Local.TheVariants as local
-use Rattle.nodes.specs.declared.Block.{Block}
-use Rattle.nodes.specs.declared.Block.TheVariants as block
 use Rattle.nodes.specs.declared.Node.{Node}
 use Rattle.nodes.specs.declared.Node.TheVariants as form
 use Rattle.nodes.specs.Nodes.{Body, item, node_at, let_at, block_at, output_of}
@@ -22,6 +15,8 @@ use Rattle.record.specs.declared.Span.{Span}
 use Rattle.record.specs.declared.Span.TheVariants as span
 use Rattle.record.specs.Steps.{Walk, Step, set_node_type, new_infer_var, for_each}
 use Rattle.rules.specs.Rules as rule
+use Rattle.type_table.specs.declared.NodeId.{NodeId}
+use Rattle.type_table.specs.declared.TypeId.{TypeId}
 
 -- how a node is typed
 abbrev pub Visit : Type 0
@@ -102,16 +97,16 @@ module _ (b : Body) (E : Visit) where
     index_of n i e
 
   -- `typeck_local`
-  unfoldable pub typeck_local : ℕ → MaybeType → MaybeNode → Step
-  typeck_local n t node.Absent = rule.let_without_init n t
-  typeck_local n t (node.Of e) = do
+  unfoldable pub typeck_local : ℕ → Option·R TypeId → Option·R NodeId → Step
+  typeck_local n t None = rule.let_without_init n t
+  typeck_local n t (Some e) = do
     y ← E e.0
     rule.let_with_init n t y
 
   -- `typeck_stmt`: a let, or an expression
-  unfoldable pub typeck_stmt : ℕ → Local → Step
-  typeck_stmt n (local.Let t e) = typeck_local n t e
-  typeck_stmt n local.Not = do
+  unfoldable pub typeck_stmt : ℕ → Option·R (Option·R TypeId × Option·R NodeId) → Step
+  typeck_stmt n (Some (t, e)) = typeck_local n t e
+  typeck_stmt n None = do
     _ ← E n
     done tt
 
@@ -124,40 +119,40 @@ module _ (b : Body) (E : Visit) where
   stmts t = for_each 0 t.count (stmt t)
 
   -- the tail of a block; without one it is Nil
-  unfoldable pub tail : MaybeNode → Walk ℕ
-  tail node.Absent = done rule.nil_type
-  tail (node.Of e) = E e.0
+  unfoldable pub tail : Option·R NodeId → Walk ℕ
+  tail None = done rule.nil_type
+  tail (Some e) = E e.0
 
   -- `typeck_block`: statements, then the tail
-  unfoldable pub typeck_block : MaybeNode → Items → Walk ℕ
+  unfoldable pub typeck_block : Option·R NodeId → Items → Walk ℕ
   typeck_block e t = do
     _ ← stmts t
     tail e
 
   -- the BLOCK of an `if` or a loop, which gets no type itself
-  abbrev pub block_of : Block → Walk ℕ
-  block_of (block.Of e t) = typeck_block e t
-  block_of block.Not = done rule.nil_type
+  abbrev pub block_of : Option·R (Option·R NodeId × Items) → Walk ℕ
+  block_of (Some (e, t)) = typeck_block e t
+  block_of None = done rule.nil_type
 
   -- the BLOCK n
   unfoldable pub block_at_lem : ℕ → Walk ℕ
   block_at_lem n = block_of (block_at b.rows b.cells n)
 
   -- what stands after else, against the type x of the block
-  unfoldable pub typeck_else : ℕ → ℕ → MaybeNode → Walk ℕ
-  typeck_else n x node.Absent = done rule.nil_type
-  typeck_else n x (node.Of e) = do
+  unfoldable pub typeck_else : ℕ → ℕ → Option·R NodeId → Walk ℕ
+  typeck_else n x None = done rule.nil_type
+  typeck_else n x (Some e) = do
     y ← E e.0
     rule.branches n e.0 x y
 
   -- the block of an `if`, and what stands after else
-  unfoldable pub typeck_branches : ℕ → ℕ → MaybeNode → Walk ℕ
+  unfoldable pub typeck_branches : ℕ → ℕ → Option·R NodeId → Walk ℕ
   typeck_branches n k e = do
     x ← block_at_lem k
     typeck_else n x e
 
   -- `typeck_expr_if`
-  unfoldable pub typeck_expr_if : ℕ → ℕ → ℕ → MaybeNode → Walk ℕ
+  unfoldable pub typeck_expr_if : ℕ → ℕ → ℕ → Option·R NodeId → Walk ℕ
   typeck_expr_if n a k e = do
     x ← E a
     _ ← rule.condition a x
@@ -219,9 +214,9 @@ module _ (b : Body) (E : Visit) where
     meth_call_of n x t d
 
   -- `ExprKind::Return`
-  unfoldable pub typeck_return : ℕ → MaybeNode → Walk ℕ
-  typeck_return n node.Absent = rule.returned n n rule.nil_type
-  typeck_return n (node.Of e) = do
+  unfoldable pub typeck_return : ℕ → Option·R NodeId → Walk ℕ
+  typeck_return n None = rule.returned n n rule.nil_type
+  typeck_return n (Some e) = do
     y ← E e.0
     rule.returned n e.0 y
 
@@ -232,7 +227,7 @@ module _ (b : Body) (E : Visit) where
     rule.lambda b.cells n e o y t
 
   -- `typeck_lambda`: inputs, an output, then BODY
-  unfoldable pub typeck_lambda : ℕ → MaybeType → ℕ → Items → Walk ℕ
+  unfoldable pub typeck_lambda : ℕ → Option·R TypeId → ℕ → Items → Walk ℕ
   typeck_lambda n o e t = do
     _ ← rule.lambda_params b.rows b.cells t
     x ← rule.lambda_output n o

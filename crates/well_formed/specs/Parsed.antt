@@ -1,18 +1,13 @@
 -- What is known of a line's value that was read: its form is one of its key, it has as many fields as the form has, each is written in
 -- the way of its kind, and takes at least two bytes.
 -- Assumes nothing.
-use Rattle.std.specs.Prelude.{ℕ, zero, suc, ◌+◌, ◌*◌, ◌/◌, ◌<◌, ◌≤◌, ◌≡◌, refl, List, [], ◌∷◌, Bool, true, false, cond, leb, ltb, eqb, length, get_or, take, drop}
+use Rattle.std.specs.Prelude.{ℕ, zero, suc, ◌+◌, ◌*◌, ◌/◌, ◌<◌, ◌≤◌, ◌≡◌, refl, List, [], ◌∷◌, Bool, true, false, cond, leb, ltb, eqb, length, get_or, take, drop, None, Option, Result, Some}
 use Prim.Native.Char.{code}
 use Rattle.std.proofs.Common.{subst, ◌∙◌, add-one, add-zero, add-suc, suc-add, zero-add, arith, length-drop, eqb-true, ltb-true, ltb-false, ne_eqb, lt-ltb}
 use Rattle.std.proofs.lemmas.Bool.{eqb-false}
 use Rattle.lex.specs.Text.{number_of, before, onto, split, parts_from, fields_from}
-use Rattle.lex.specs.declared.Num.{Num}
-use Rattle.lex.specs.declared.Num.TheVariants as num
 use Rattle.forms.specs.declared.Form.{Form}
 use Rattle.forms.specs.declared.Cell.{Cell}
-use Rattle.forms.specs.declared.Read.{Read}
-use Rattle.forms.specs.declared.Read.TheVariants.{Is, Bad}
-use Rattle.forms.specs.declared.Line.{Line}
 use Rattle.forms.specs.declared.Fault.{Fault}
 use Rattle.forms.specs.Form.{LineForm, forms, no_form, fits, worded, index_of, form_of, form_at, kind_at, cell, valued, named, letter_of, optional_of, binary_of, unary_of, tag_of, tagged_of, resolution_of, behind_of, pair_of, read_as, read_of, Cells, refused, cells, prepend, cells_from, Parsed, wrong, parsed, start_of, count_of, with_cells, counted, parse_line}
 use Rattle.body.specs.Body.{fault_number}
@@ -41,32 +36,32 @@ pub either : {A : Type 0} (P : A → Type 0) (b : Bool) (x y : A) → P x → P 
 either P b x y p q = by_test P b x y (λ e. p) (λ e. q)
 
 -- a field has a tag and a value of the way c, where it was read
-unfoldable Writes : ℕ → Read → Type 0
-Writes c Bad = Unit {0}
-Writes c (Is x) = written_as c x.tag x.value ≡ true
+unfoldable Writes : ℕ → Option Cell → Type 0
+Writes c None = Unit {0}
+Writes c (Some x) = written_as c x.tag x.value ≡ true
 
 -- a cell whose tag and value are of the way c is written in it
-is_writes : (c a t n : ℕ) → written_as c t n ≡ true → Writes c (Is (cell a t n))
+is_writes : (c a t n : ℕ) → written_as c t n ≡ true → Writes c (Some (cell a t n))
 unfolding Writes
 is_writes c a t n h = h
 
 -- of a field that was not read nothing is asked
-bad_writes : (c : ℕ) → Writes c Bad
+bad_writes : (c : ℕ) → Writes c None
 unfolding Writes
 bad_writes c = tt
 
 -- a number with the tag b is written in the way c, where the tag is
-valued_writes : (c b : ℕ) → ((x : ℕ) → written_as c b x ≡ true) → (n : Num) → Writes c (valued b n)
+valued_writes : (c b : ℕ) → ((x : ℕ) → written_as c b x ≡ true) → (n : Option ℕ) → Writes c (valued b n)
 unfolding Writes
-valued_writes c b h (num.Is n) = h n
-valued_writes c b h num.Bad = tt
+valued_writes c b h (Some n) = h n
+valued_writes c b h None = tt
 
 -- a name before a field changes nothing of the way
-named_writes : (c : ℕ) (a : Num) (r : Read) → Writes c r → Writes c (named a r)
+named_writes : (c : ℕ) (a : Option ℕ) (r : Option Cell) → Writes c r → Writes c (named a r)
 unfolding Writes
-named_writes c (num.Is a) (Is x) h = h
-named_writes c (num.Is a) Bad h = tt
-named_writes c num.Bad r h = tt
+named_writes c (Some a) (Some x) h = h
+named_writes c (Some a) None h = tt
+named_writes c None r h = tt
 
 -- a number or `-` is written in the way 2
 optional_writes : (x : ℕ) (s : List ℕ) → Writes 2 (optional_of x s)
@@ -124,7 +119,7 @@ unfolding pair_of
 pair_writes c p s h = named_writes c (number_of (take (before 58 s) s)) (behind_of p (drop (before 58 s + 1) s)) (h _)
 
 -- where c is the way n, it is enough to know it of n
-at_way : (c n : ℕ) (r q : Read) → Writes n r → Writes c q → Writes c (cond (eqb c n) r q)
+at_way : (c n : ℕ) (r q : Option Cell) → Writes n r → Writes c q → Writes c (cond (eqb c n) r q)
 at_way c n r q h g = by_test (Writes c) (eqb c n) r q (λ e. rw (eqb-true c n e) h) (λ e. g)
 
 -- a field that is read is written in its way
@@ -140,17 +135,17 @@ read_writes c s =
     (at_way c 7 _ _ (pair_writes 7 true s (λ t. resolution_writes 7 t (λ b x. refl))) (bad_writes c)))))))
 
 -- a test between two refusals is a refusal
-bad_arms : (b : Bool) → cond b Bad Bad ≡ Bad
+bad_arms : (b : Bool) → cond {A = Option Cell} b None None ≡ None
 bad_arms true = refl
 bad_arms false = refl
 
 -- an empty field is refused
-empty_bad : (c : ℕ) → read_as c [] ≡ Bad
+empty_bad : (c : ℕ) → read_as c [] ≡ None
 unfolding read_as letter_of optional_of pair_of binary_of unary_of tag_of tagged_of number_of before
 empty_bad c = simp bad_arms
 
 -- a field that is read has a byte
-pub read_filled : (c : ℕ) (s : List ℕ) (x : Cell) → read_as c s ≡ Is x → 0 < length s
+pub read_filled : (c : ℕ) (s : List ℕ) (x : Cell) → read_as c s ≡ Some x → 0 < length s
 read_filled c [] x e = let z : ◌≡◌ {A = ℕ} 0 1 = cc (empty_bad c) in omega arith
 read_filled c (b ∷ s) x e = omega arith
 
@@ -206,12 +201,12 @@ cell_good f i s ss x l w p g = record { bytes = omega (arith, g.bytes); written 
     at (suc a) h = rw (add-suc i a, ← suc-add i a, ← add-one i) (g.written a (omega arith))
 
 -- the cells of fields of which the first is r and the others are q are good
-prepend_good : (f : Form) (i : ℕ) (s : List ℕ) (ss : List (List ℕ)) (r : Read) (q : Cells) → read_of (kind_at f i) s ≡ r → Writes (kind_at f i / 16) r
+prepend_good : (f : Form) (i : ℕ) (s : List ℕ) (ss : List (List ℕ)) (r : Option Cell) (q : Cells) → read_of (kind_at f i) s ≡ r → Writes (kind_at f i / 16) r
     → IfCells f (i + 1) ss q → IfCells f i (s ∷ ss) (prepend r q)
 unfolding Writes
-prepend_good f i s ss Bad q e w g = tt
-prepend_good f i s ss (Is x) (refused l) e w g = tt
-prepend_good f i s ss (Is x) (cells l) e w g = cell_good f i s ss x l w (read_filled (kind_at f i / 16) s x e) g
+prepend_good f i s ss None q e w g = tt
+prepend_good f i s ss (Some x) (refused l) e w g = tt
+prepend_good f i s ss (Some x) (cells l) e w g = cell_good f i s ss x l w (read_filled (kind_at f i / 16) s x e) g
 
 -- the cells that are read are good
 cells_good : (f : Form) (i : ℕ) (ss : List (List ℕ)) → IfCells f i ss (cells_from f i ss)
@@ -255,8 +250,8 @@ counted_good : (k : ℕ) (v : List ℕ) (f p : ℕ) (r : Cells) → f < 30 → (
 unfolding count_of
 counted_good k v f p (refused l) h e g = omega arith
 counted_good k v f p (cells l) h e g =
-    by_test (λ (x : Line). IfParsed k v (with_cells x l)) (ltb (length l) (form_at f).4) _ _ (λ a. omega arith)
-    (λ a. by_test (λ (x : Line). IfParsed k v (with_cells x l)) (ltb (form_at f).5 (length l)) _ _ (λ b. omega arith)
+    by_test (λ (x : Result (ℕ × ℕ) Fault). IfParsed k v (with_cells x l)) (ltb (length l) (form_at f).4) _ _ (λ a. omega arith)
+    (λ a. by_test (λ (x : Result (ℕ × ℕ) Fault). IfParsed k v (with_cells x l)) (ltb (form_at f).5 (length l)) _ _ (λ b. omega arith)
     (λ b. record {
       form = h;
       key = e;

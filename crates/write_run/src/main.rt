@@ -9,13 +9,9 @@
 // for each of the four rooms in how many it is as it has to be.
 #![tactic(auto)]
 
-ghost use Rattle.std.specs.Prelude.{◌≤◌, length};
-
 use body::Answer;
-use body_text::Room;
-use output::Ending;
 use refs::Counts;
-use sample_input::{Next, Part, Sample};
+use sample_input::{Part, Sample};
 
 // What every cell of a table and every byte of a room is before a body.
 const BEFORE: u16 = 7;
@@ -27,111 +23,23 @@ const SPARE: usize = 3;
 
 // ── a room ──
 
-// A text starts with these bytes.
-fn starts(t: &[u8], s: &[u8]) -> bool {
-    if t.len() < s.len() {
-        return false;
-    }
-    let mut i = 0;
-    while i < s.len() {
-        if t[i] != s[i] {
-            return false;
-        }
-        i += 1;
-    }
-    true
-}
-
-// A text ends at the place n.
-fn ends_at(e: Ending, n: usize) -> bool {
-    match e {
-        Ending::At(k) => k == n,
-        Ending::Full => false,
-    }
-}
-
-// A text had no room.
-fn is_full(e: Ending) -> bool {
-    match e {
-        Ending::At(k) => false,
-        Ending::Full => true,
-    }
-}
-
 // The file s stands in a room, and behind it every byte is as before.
-fn holds(room: &[u8], e: Ending, s: &[u8]) -> bool {
-    if !ends_at(e, s.len()) {
-        return false;
-    }
-    if !starts(room, s) {
-        return false;
-    }
-    sample_input::bytes_filled(room, s.len(), BYTE_BEFORE)
+fn holds(room: &[u8], e: Option<usize>, s: &[u8]) -> bool {
+    e == Some(s.len())
+        && room.starts_with(s)
+        && sample_input::bytes_filled(room, s.len(), BYTE_BEFORE)
 }
 
 // A room is told as full, and zero throughout.
-fn is_cleared(room: &[u8], e: Ending) -> bool {
-    if !is_full(e) {
-        return false;
-    }
-    sample_input::bytes_filled(room, 0, 0)
-}
-
-// The tables of the file s, written into a room that has to hold it.
-fn write_whole(room: &mut [u8], s: &[u8], rows: &[u16], cells: &[u16], n: Counts) -> bool {
-    let e = body_write::write_body(room, rows, cells, n);
-    holds(room, e, s)
-}
-
-// The same into a room that is too short.
-fn write_short(room: &mut [u8], rows: &[u16], cells: &[u16], n: Counts) -> bool {
-    let e = body_write::write_body(room, rows, cells, n);
-    is_cleared(room, e)
-}
-
-// The file s is written into a room of m bytes.
-fn has_room(s: &[u8], m: usize, rows: &[u16], cells: &[u16], n: Counts) -> bool {
-    let mut room = [BYTE_BEFORE; body_text::ROOM];
-    if m <= body_text::ROOM {
-        return write_whole(&mut room[0..m], s, rows, cells, n);
-    }
-    false
-}
-
-// A room of m bytes is too short.
-fn has_no_room(m: usize, rows: &[u16], cells: &[u16], n: Counts) -> bool {
-    let mut room = [BYTE_BEFORE; body_text::ROOM];
-    if m <= body_text::ROOM {
-        return write_short(&mut room[0..m], rows, cells, n);
-    }
-    false
+fn is_cleared(room: &[u8], e: Option<usize>) -> bool {
+    e.is_none() && sample_input::bytes_filled(room, 0, 0)
 }
 
 // ── a body ──
 
 // The length of the second room, that of a file being m.
 fn longer(m: usize) -> usize {
-    if m < body_text::ROOM {
-        return m + SPARE;
-    }
-    m
-}
-
-// The length of the third one.
-fn shorter(m: usize) -> usize {
-    if 0 < m {
-        return m - 1;
-    }
-    m
-}
-
-// What came of a body.
-#[derive(Clone, Copy)]
-enum Outcome {
-    // The reader refuses it.
-    Refused,
-    // It was written into the four rooms.
-    Written(Rooms),
+    if m < body_text::ROOM { m + SPARE } else { m }
 }
 
 // Which of the four rooms are as they have to be.
@@ -143,89 +51,85 @@ struct Rooms {
     empty: bool,
 }
 
-// A file and its tables, through the four rooms.
-fn write_back(
-    rt: &impl Print,
-    name: &[u8],
-    s: &[u8],
-    rows: &[u16],
-    cells: &[u16],
-    n: Counts,
-) -> Rooms {
-    let m = s.len();
-    let a = has_room(s, m, rows, cells, n);
-    let b = has_room(s, longer(m), rows, cells, n);
-    let c = has_no_room(shorter(m), rows, cells, n);
-    let d = has_no_room(0, rows, cells, n);
-    Rooms {
-        exact: sample_input::told(rt, name, b"a room of its length", a),
-        spare: sample_input::told(rt, name, b"a room three bytes longer", b),
-        short: sample_input::told(rt, name, b"a room one byte short", c),
-        empty: sample_input::told(rt, name, b"an empty room", d),
-    }
+// A file that the reader accepts, its two tables and their counts.
+#[derive(Clone, Copy)]
+struct File<'a> {
+    bytes: &'a [u8],
+    rows: &'a [u16],
+    cells: &'a [u16],
+    counts: Counts,
 }
 
-// The same for an answer of the reader.
-fn write_answer(
-    rt: &impl Print,
-    name: &[u8],
-    s: &[u8],
-    a: Answer,
-    rows: &[u16],
-    cells: &[u16],
-) -> Outcome {
-    match a {
-        Answer::Body(n) => {
-            let r = write_back(rt, name, s, rows, cells, n);
-            Outcome::Written(r)
+impl File<'_> {
+    // It is written into a room of m bytes.
+    fn has_room(&self, m: usize) -> bool {
+        let mut all = [BYTE_BEFORE; body_text::ROOM];
+        if m > body_text::ROOM {
+            return false;
         }
-        _ => Outcome::Refused,
+        let room = &mut all[..m];
+        let e = body_write::write_body(room, self.rows, self.cells, self.counts);
+        holds(room, e, self.bytes)
+    }
+
+    // A room of m bytes is too short.
+    fn has_no_room(&self, m: usize) -> bool {
+        let mut all = [BYTE_BEFORE; body_text::ROOM];
+        if m > body_text::ROOM {
+            return false;
+        }
+        let room = &mut all[..m];
+        let e = body_write::write_body(room, self.rows, self.cells, self.counts);
+        is_cleared(room, e)
+    }
+
+    // Through the four rooms.
+    fn write_back(&self, rt: &impl Print, name: &[u8]) -> Rooms {
+        let m = self.bytes.len();
+        let exact = self.has_room(m);
+        let spare = self.has_room(longer(m));
+        let short = self.has_no_room(m.saturating_sub(1));
+        let empty = self.has_no_room(0);
+        Rooms {
+            exact: sample_input::told(rt, name, b"a room of its length", exact),
+            spare: sample_input::told(rt, name, b"a room three bytes longer", spare),
+            short: sample_input::told(rt, name, b"a room one byte short", short),
+            empty: sample_input::told(rt, name, b"an empty room", empty),
+        }
     }
 }
 
-// A file, by its bytes.
-fn run_file(rt: &impl Print, name: &[u8], s: &[u8]) -> Outcome {
+// A file, by its bytes: the four rooms, if the reader accepts it.
+fn run_file(rt: &impl Print, name: &[u8], s: &[u8]) -> Option<Rooms> {
     let mut rows = [BEFORE; body::ROWS];
     let mut cells = [BEFORE; body::CELLS];
-    let a = body::read_body(s, &mut rows, &mut cells);
-    write_answer(rt, name, s, a, &rows, &cells)
-}
-
-// The first n bytes of a room, as a file.
-fn run_room(rt: &impl Print, name: &[u8], room: &[u8], n: usize) -> Outcome {
-    if n <= room.len() {
-        return run_file(rt, name, &room[0..n]);
+    match body::read_body(s, &mut rows, &mut cells) {
+        Answer::Body(counts) => {
+            let file = File {
+                bytes: s,
+                rows: &rows,
+                cells: &cells,
+                counts,
+            };
+            Some(file.write_back(rt, name))
+        }
+        _ => None,
     }
-    Outcome::Refused
 }
 
-// The first line of a sample, whose name ends at the place k.
-fn run_text(rt: &impl Print, room: &mut Room, s: &[u8], k: usize) -> Outcome
-    requires { k ≤ length s.now }
-{
-    let n = body_text::expand_line(room, s, k);
-    run_room(rt, &s[0..k], room, n)
-}
-
-// The first line of a sample.
-fn run_line(rt: &impl Print, s: &[u8]) -> Outcome {
+// The first line of a sample, which ends at k.
+fn run_sample(rt: &impl Print, sample: &[u8], k: usize) -> Option<Rooms> {
+    let line = sample.get(..k)?;
     let mut room = [0u8; body_text::ROOM];
-    let k = body_text::find(s, 0, b' ');
-    run_text(rt, &mut room, s, k)
-}
-
-// A sample whose first line ends at k.
-fn run_sample(rt: &impl Print, s: &[u8], k: usize) -> Outcome {
-    if k <= s.len() {
-        return run_line(rt, &s[0..k]);
-    }
-    Outcome::Refused
+    let e = body_text::find(line, 0, b' ');
+    let n = body_text::expand_line(&mut room, line, e);
+    run_file(rt, &line[..e], room.get(..n)?)
 }
 
 // ── totals ──
 
 // How many samples there are, how many of their bodies the reader refuses, and in how many each of the four rooms is right.
-#[derive(Clone, Copy)]
+#[derive(Clone, Copy, Default)]
 struct Totals {
     samples: u64,
     refused: u64,
@@ -235,61 +139,34 @@ struct Totals {
     empty: u64,
 }
 
-// The totals with one sample more, whose body is refused.
-fn with_refused(t: Totals) -> Totals {
-    Totals {
-        samples: sample_input::counted(t.samples, true),
-        refused: sample_input::counted(t.refused, true),
-        exact: t.exact,
-        spare: t.spare,
-        short: t.short,
-        empty: t.empty,
+impl Totals {
+    // One sample more, with what came of its body.
+    fn count(&mut self, written: Option<Rooms>) {
+        self.samples = sample_input::counted(self.samples, true);
+        match written {
+            None => self.refused = sample_input::counted(self.refused, true),
+            Some(rooms) => {
+                self.exact = sample_input::counted(self.exact, rooms.exact);
+                self.spare = sample_input::counted(self.spare, rooms.spare);
+                self.short = sample_input::counted(self.short, rooms.short);
+                self.empty = sample_input::counted(self.empty, rooms.empty);
+            }
+        }
     }
 }
 
-// The same with one that was written into the four rooms.
-fn with_written(t: Totals, r: Rooms) -> Totals {
-    Totals {
-        samples: sample_input::counted(t.samples, true),
-        refused: t.refused,
-        exact: sample_input::counted(t.exact, r.exact),
-        spare: sample_input::counted(t.spare, r.spare),
-        short: sample_input::counted(t.short, r.short),
-        empty: sample_input::counted(t.empty, r.empty),
-    }
-}
-
-// The same with what came of its body.
-fn with_outcome(t: Totals, o: Outcome) -> Totals {
-    match o {
-        Outcome::Refused => with_refused(t),
-        Outcome::Written(r) => with_written(t, r),
-    }
-}
-
-// The totals of the input. Nothing says that it ends, so its samples are counted down from a number that no run uses up.
+// The totals of the input. Nothing says that it ends, so its samples are counted, up to a number that no run uses up.
 fn run(rt: &(impl Input + Print), part: &mut Part, sample: &mut Sample) -> Totals {
-    let mut t = Totals {
-        samples: 0,
-        refused: 0,
-        exact: 0,
-        spare: 0,
-        short: 0,
-        empty: 0,
-    };
-    let mut p = sample_input::start();
-    let mut left = u64::MAX;
-    while left > 0 {
-        let next = sample_input::next_sample(rt, part, sample, p);
-        let Next::Sample(c) = next else {
-            return t;
+    let mut totals = Totals::default();
+    let mut place = sample_input::start();
+    for _ in 0..u64::MAX {
+        let Some(cut) = sample_input::next_sample(rt, part, sample, place) else {
+            break;
         };
-        let o = run_sample(rt, sample, c.first);
-        t = with_outcome(t, o);
-        p = c.place;
-        left -= 1;
+        totals.count(run_sample(rt, sample, cut.first));
+        place = cut.place;
     }
-    t
+    totals
 }
 
 // The samples of standard input.

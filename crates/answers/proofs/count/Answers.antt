@@ -1,4 +1,4 @@
 use Rattle.answers.proofs.count.Goals as goal
 
 pub returns : goal.returns
-returns c = rw c.made-k.ensures
+returns c = rw c.made.ensures

@@ -3,7 +3,7 @@ use Rattle.answers.proofs.Laws.{handed_typed, handed_declined, handed_refused, h
 use Rattle.answers.proofs.hand_back.Goals as goal
 
 pub returns-in-Typed : goal.returns-in-Typed
-returns-in-Typed c = handed_typed _ _ _ _ _ _ _ _ _ (c.in-Typed.is) (c.count-t.ensures) (c.fill.ensures)
+returns-in-Typed c = handed_typed _ _ _ _ _ _ _ _ _ (c.in-Typed.is) (c.count.ensures) (c.fill.ensures)
 
 pub returns-in-Declined : goal.returns-in-Declined
 returns-in-Declined c = handed_declined _ _ _ _ _ _ (c.in-Declined.is) (c.clear.ensures, refl, refl)

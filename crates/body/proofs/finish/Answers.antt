@@ -1,15 +1,15 @@
-use mathlib.Core.Path.{sym}
+use Rattle.std.proofs.Common.{rules, sym}
 use Rattle.body.proofs.Laws.{no_fn, ahead, too_deep, all_there}
 use Rattle.body.proofs.finish.Goals as goal
 
-pub returns-then-r-t : goal.returns-then-r-t
-returns-then-r-t c = sym (ahead _ _ _ _ (c.if-k-eq-KEY_FN.true) _ (c.first_ahead-r.ensures) (c.if-r-t.true))
+pub returns-then-st-ne-KEY_FN : goal.returns-then-st-ne-KEY_FN
+returns-then-st-ne-KEY_FN c = sym (search (rules, no_fn))
 
-pub returns-then-deep : goal.returns-then-deep
-returns-then-deep c = sym (too_deep _ _ _ _ (c.if-k-eq-KEY_FN.true) _ (c.first_ahead-r.ensures) (c.if-r-t.false) (c.if-deep.true))
+pub returns-then-r-st : goal.returns-then-r-st
+returns-then-r-st c = sym (search (rules, ahead))
 
-pub returns-then-k-eq-KEY_FN : goal.returns-then-k-eq-KEY_FN
-returns-then-k-eq-KEY_FN c = sym (all_there _ _ _ _ (c.if-k-eq-KEY_FN.true) _ (c.first_ahead-r.ensures) (c.if-r-t.false) (c.if-deep.false))
+pub returns-then-st : goal.returns-then-st
+returns-then-st c = sym (search (rules, too_deep))
 
-pub returns : goal.returns
-returns c = sym (no_fn _ _ _ _ (c.if-k-eq-KEY_FN.false))
+pub returns-else-st : goal.returns-else-st
+returns-else-st c = sym (search (rules, all_there))

@@ -1,26 +1,25 @@
-use Prim.Native.Nat.{◌-◌}
+use mathlib.Core.Path.{◌≡◌, sym, ◌∙◌}
+use Prim.Native.Nat.{◌+◌, ◌-◌, suc}
 use native.Mathlib.Omega.{arith}
-use mathlib.Core.Path.{refl, sym, ◌∙◌}
-use Rattle.conflict_set.specs.Laws.{plain_end, plain_stop, plain_on}
 use Rattle.conflict_theory.specs.Plains.{is_plain}
+use Rattle.conflict_set.specs.Laws.{plain_end, plain_next, plain_zero}
 use Rattle.conflict_set.proofs.is_plain.Goals as goal
 
-pub loop-c-init : goal.loop-c-init
+pub loop-step-init : goal.loop-step-init
 unfolding is_plain
-loop-c-init c = refl
+loop-step-init c = let e : c.args.x.0 + 1 - 0 ≡ suc (c.args.x.0) = omega arith in rw e
 
 pub returns-then-h-ne-HEAD_ARRAY : goal.returns-then-h-ne-HEAD_ARRAY
-unfolding is_plain
-returns-then-h-ne-HEAD_ARRAY c = plain_end (c.args.m.now) (c.args.c) _ _ _ _ (c.head-h.ensures) (c.if-h-ne-HEAD_ARRAY.true) (c.plain_head.ensures) ∙ sym (c.loop-c.invariant)
+returns-then-h-ne-HEAD_ARRAY c =
+    let e : c.args.x.0 + 1 - c.loop-step._step ≡ suc (c.args.x.0 - c.loop-step._step) = omega arith in
+    plain_end (c.args.m.now) (c.args.c) _ _ _ _ (c.head-h.ensures) (c.if-h-ne-HEAD_ARRAY.true) (c.plain_head.ensures) ∙ sym (rw e at c.loop-step.invariant)
 
-pub returns-then-n-eq0 : goal.returns-then-n-eq0
-unfolding is_plain
-returns-then-n-eq0 c = plain_stop (c.args.m.now) (c.args.c) _ _ _ (c.head-h.ensures) (c.if-h-ne-HEAD_ARRAY.false) (c.if-n-eq0.true) ∙ sym (c.loop-c.invariant)
+pub loop-step-preserved : goal.loop-step-preserved
+loop-step-preserved c =
+    let e : c.args.x.0 + 1 - c.loop-step._step ≡ suc (c.args.x.0 + 1 - (c.loop-step._step + 1)) = omega arith in
+    (rw e at c.loop-step.invariant) ∙ plain_next (c.args.m.now) (c.args.c) _ _ _ _ (c.head-h.ensures) (c.if-h-ne-HEAD_ARRAY.false) (c.element-y.ensures)
 
-pub loop-c-smaller : goal.loop-c-smaller
-unfolding is_plain
-loop-c-smaller c = omega (arith, c.if-n-eq0.false)
-
-pub loop-c-preserved : goal.loop-c-preserved
-unfolding is_plain
-loop-c-preserved c = c.loop-c.invariant ∙ plain_on (c.args.m.now) (c.args.c) _ _ _ _ (c.head-h.ensures) (c.if-h-ne-HEAD_ARRAY.false) (c.if-n-eq0.false) (c.element-y.ensures)
+pub returns : goal.returns
+returns c =
+    let e : c.args.x.0 + 1 - c.loop-step._step ≡ 0 = omega arith in
+    plain_zero (c.args.m.now) (c.args.c) _ ∙ sym (rw e at c.loop-step.invariant)

@@ -1,14 +1,15 @@
+use native.Mathlib.Omega.{arith}
 use Rattle.conflict_set.specs.SearchLaws.{lead_array, lead_bound, lead_open, lead_nowhere}
 use Rattle.conflict_set.proofs.lead_from.Goals as goal
 
-pub returns-then-h-eq-HEAD_ARRAY : goal.returns-then-h-eq-HEAD_ARRAY
-returns-then-h-eq-HEAD_ARRAY c = lead_array c.args.m.now c.args.c _ _ c.head-h.ensures c.if-h-eq-HEAD_ARRAY.true _ c.element-e.ensures
+pub returns-in-8 : goal.returns-in-8
+returns-in-8 c = lead_array c.args.m.now c.args.c _ _ c.head.ensures c.in-8.is _ c.element.ensures
 
-pub returns-in-To : goal.returns-in-To
-returns-in-To c = lead_bound c.args.m.now c.args.c _ _ c.head-h.ensures c.if-h-eq-HEAD_ARRAY.false c.if-h-eq-HEAD_INFER_TY.true _ _ c.var_of-v.ensures c.bound_to.ensures _ c.in-To.is
+pub returns-in-Some : goal.returns-in-Some
+returns-in-Some c = lead_bound c.args.m.now c.args.c _ _ c.head.ensures (λ q. omega (arith, c.in-12.is)) c.in-12.is _ _ c.var_of-v.ensures c.bound_to.ensures _ c.in-Some.is
 
-pub returns-in-Open : goal.returns-in-Open
-returns-in-Open c = lead_open c.args.m.now c.args.c _ _ c.head-h.ensures c.if-h-eq-HEAD_ARRAY.false c.if-h-eq-HEAD_INFER_TY.true _ _ c.var_of-v.ensures c.bound_to.ensures c.in-Open.is
+pub returns-in-None : goal.returns-in-None
+returns-in-None c = lead_open c.args.m.now c.args.c _ _ c.head.ensures (λ q. omega (arith, c.in-12.is)) c.in-12.is _ _ c.var_of-v.ensures c.bound_to.ensures c.in-None.is
 
-pub returns : goal.returns
-returns c = lead_nowhere c.args.m.now c.args.c _ _ c.head-h.ensures c.if-h-eq-HEAD_ARRAY.false c.if-h-eq-HEAD_INFER_TY.false
+pub returns-in_default : goal.returns-in_default
+returns-in_default c = lead_nowhere c.args.m.now c.args.c _ _ c.head.ensures (grind arith) (grind arith)

@@ -1,8 +1,6 @@
+use Prim.Native.Nat.{◌-◌}
 use Rattle.conflict_set.specs.SearchLaws.{Leads}
 use Rattle.conflict_set.proofs.open_end.Given as goal
 
-abbrev pub invariant-loop-n : goal.invariant-loop-n
-invariant-loop-n l = Leads l.m l.c l.initial.y.0 l.y.0 l.n
-
-abbrev pub decreases-loop-n : goal.decreases-loop-n
-decreases-loop-n l = l.n
+abbrev pub invariant-loop-step : goal.invariant-loop-step
+invariant-loop-step l = Leads l.m l.c l.initial.y.0 l.y.0 (l.n - l._step)

@@ -1,4 +1,4 @@
-use Prim.Native.Nat.{◌-◌, ◌≤◌}
+use Prim.Native.Nat.{◌≤◌}
 use mathlib.Core.Path.{◌≡◌}
 use lib.ListN.{length}
 use Rattle.conflict_set.specs.Laws.{Scans}
@@ -6,6 +6,3 @@ use Rattle.conflict_set.proofs.scan.Given as goal
 
 abbrev pub invariant-loop-k : goal.invariant-loop-k
 invariant-loop-k l = Scans l.initial.m l.c l.n l.initial.set l.m l.set l.k l.lo × (l.k ≤ l.n) × (length l.set ≡ length l.initial.set) × (length l.m ≡ length l.initial.m)
-
-abbrev pub decreases-loop-k : goal.decreases-loop-k
-decreases-loop-k l = l.n - l.k

@@ -1,8 +1,6 @@
 use borrow.Author.Rules.{rules}
-use Prim.Native.Nat.{◌-◌}
 use mathlib.Core.Path.{sym, ◌∙◌}
 use Rattle.conflict_set.specs.Laws.{worked_start, first_hit, first_on, first_end}
-use Rattle.conflict_set.specs.In.{is_failed}
 use Rattle.conflict_set.proofs.worked.Goals as goal
 
 pub loop-i-init : goal.loop-i-init

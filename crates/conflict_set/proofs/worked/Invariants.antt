@@ -7,6 +7,3 @@ use Rattle.conflict_set.proofs.worked.Given as goal
 
 abbrev pub invariant-loop-i : goal.invariant-loop-i
 invariant-loop-i l = (worked_in l.m l.q ≡ first_behind (λ j. is_failed (cell l.m (log_at + j * 3 + 2))) l.i (l.q - l.i)) × (l.i ≤ l.q)
-
-abbrev pub decreases-loop-i : goal.decreases-loop-i
-decreases-loop-i l = l.q - l.i

@@ -3,8 +3,8 @@ use Rattle.conflict_set.specs.Text.{by_ending}
 use Rattle.conflict_set.specs.TextLaws.{written_law}
 use Rattle.conflict_set.proofs.written.Goals as goal
 
-pub returns-in-At : goal.returns-in-At
-returns-in-At c = written_law _ _ _ _ _ (c.finish.ensures) (ap by_ending (sym (c.in-At.is)))
+pub returns-in-Some : goal.returns-in-Some
+returns-in-Some c = written_law _ _ _ _ _ (c.finish.ensures) (ap by_ending (sym (c.in-Some.is)))
 
-pub returns-in-Full : goal.returns-in-Full
-returns-in-Full c = written_law _ _ _ _ _ (c.finish.ensures) (ap by_ending (sym (c.in-Full.is)))
+pub returns-in-None : goal.returns-in-None
+returns-in-None c = written_law _ _ _ _ _ (c.finish.ensures) (ap by_ending (sym (c.in-None.is)))

@@ -1,9 +1,9 @@
-use borrow.Author.Rules.{rules}
-use Rattle.forms.proofs.Laws.{node_ends, node_numbered, key_end, key_word}
+use Rattle.std.proofs.Common.{rules}
+use Rattle.forms.proofs.Laws.{node_key, key_word}
 use Rattle.forms.proofs.read_key.Goals as goal
 
-pub returns-then-l-eq61 : goal.returns-then-l-eq61
-returns-then-l-eq61 c = record { within = search rules; end_value = (search node_ends, search node_numbered) }
+pub returns-in-110-clause-end_value : goal.returns-in-110-clause-end_value
+returns-in-110-clause-end_value c = search (rules, node_key)
 
-pub returns : goal.returns
-returns c = record { within = search rules; end_value = (search key_end, search key_word) }
+pub returns-clause-end_value : goal.returns-clause-end_value
+returns-clause-end_value c = search (rules, key_word)

@@ -1,31 +1,27 @@
-use mathlib.Core.Path.{sym}
-use borrow.Author.Rules.{rules}
-use Rattle.lex.proofs.Laws.{passed, digit_of, scan_past, scan_zero, scan_empty, scan_low, scan_high, scan_large, scan_comma, scan-end}
+use Rattle.std.proofs.Common.{rules}
+use Rattle.lex.proofs.Laws.{scan_past, scan_empty, scan_zero, scan_start, scan_stop, scan_digit, scan_comma, scan_end}
 use Rattle.lex.proofs.scan.Goals as goal
+use Rattle.lex.proofs.scan.Goals.{then-p-s-via-then-p-s, then-p-s-via-else-p-s+then-s-p-eq48, then-p-s-via-else-p-s+else-s-p-eq48+then-s-p-eq44}
 
-pub returns-then-s-p : goal.returns-then-s-p
-returns-then-s-p c = sym (search scan_past)
+pub returns-then-p-s : goal.returns-then-p-s
+returns-then-p-s c =
+    elim c.then-p-s.branch [
+      | then-p-s-via-then-p-s w ↦ search (rules, scan_past)
+      | then-p-s-via-else-p-s+then-s-p-eq48 w ↦ search (rules, scan_zero)
+      | then-p-s-via-else-p-s+else-s-p-eq48+then-s-p-eq44 w ↦ search (rules, scan_empty)
+    ]
 
-pub returns-then-s-p-eq48 : goal.returns-then-s-p-eq48
-returns-then-s-p-eq48 c = sym (search scan_zero)
+pub loop-end-init : goal.loop-end-init
+loop-end-init c = search (rules, scan_start)
 
-pub returns-then-s-p-eq44 : goal.returns-then-s-p-eq44
-returns-then-s-p-eq44 c = sym (search scan_empty)
+pub returns-then-s-end-eq44 : goal.returns-then-s-end-eq44
+returns-then-s-end-eq44 c = search (rules, scan_comma)
 
-pub returns-then-s-i-eq44 : goal.returns-then-s-i-eq44
-returns-then-s-i-eq44 c = sym (search scan_comma)
+pub returns-in_err-n : goal.returns-in_err-n
+returns-in_err-n c = search (rules, scan_stop)
 
-pub returns-then-d-lt48 : goal.returns-then-d-lt48
-returns-then-d-lt48 c = sym (search scan_low)
-
-pub returns-then-d-gt57 : goal.returns-then-d-gt57
-returns-then-d-gt57 c = sym (search scan_high)
-
-pub returns-then-x-gt65535 : goal.returns-then-x-gt65535
-returns-then-x-gt65535 c = sym (search scan_large)
-
-pub loop-i-preserved : goal.loop-i-preserved
-loop-i-preserved c = (search rules, search rules, search rules, search passed, search digit_of)
+pub loop-end-preserved : goal.loop-end-preserved
+loop-end-preserved c = search (rules, scan_digit)
 
 pub returns : goal.returns
-returns c = sym (search scan-end)
+returns c = search (rules, scan_end)

@@ -1,19 +1,15 @@
-use mathlib.Core.Path.{sym}
-use borrow.Author.Rules.{rules}
-use Rattle.lex.proofs.Laws.{found, passed, none, letter_of_lem, word_end, word_all, word_at, word_long, word_nul}
+use Rattle.std.proofs.Common.{rules}
+use Rattle.lex.proofs.Laws.{found, passed, none, letter_of, word_end, word_all, word_at, word_none}
 use Rattle.lex.proofs.word_to.Goals as goal
 
-pub returns-then-s-i : goal.returns-then-s-i
-returns-then-s-i c = record { within = search rules; end_value = (sym (search found), search word_end) }
+pub returns-then-x-c-clause-end_value : goal.returns-then-x-c-clause-end_value
+returns-then-x-c-clause-end_value c = (search (rules, found), search (rules, word_end))
 
-pub returns-then-a-ge72057594037927936 : goal.returns-then-a-ge72057594037927936
-returns-then-a-ge72057594037927936 c = record { within = search rules; end_value = (search word_at, search word_long) }
+pub returns-then-number-clause-end_value : goal.returns-then-number-clause-end_value
+returns-then-number-clause-end_value c = (search (rules, word_at), word_none _ _ _ _ c.loop-end.invariant.1 c.loop-end.invariant.0 _ c.field_end.ensures.value c.loop-end-test.true c.if-x-c.false c.then-number.either)
 
-pub returns-then-y-eq0 : goal.returns-then-y-eq0
-returns-then-y-eq0 c = record { within = search rules; end_value = (search word_at, search word_nul) }
+pub loop-end-preserved : goal.loop-end-preserved
+loop-end-preserved c = (search (rules, passed), search (rules, letter_of))
 
-pub loop-i-preserved : goal.loop-i-preserved
-loop-i-preserved c = (search rules, search passed, search letter_of_lem)
-
-pub returns : goal.returns
-returns c = record { within = search rules; end_value = (sym (search none), search word_all) }
+pub returns-clause-end_value : goal.returns-clause-end_value
+returns-clause-end_value c = (search (rules, none), search (rules, word_all))

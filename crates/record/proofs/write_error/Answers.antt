@@ -9,4 +9,4 @@ pub overflow_add-at-9 : goal.overflow_add-at-9
 overflow_add-at-9 c = omega (arith, c.ranges.i)
 
 pub returns : goal.returns
-returns c = error_stores _ _ _ _ _ _ _ _ _ _ _ _ _ _ _ _ _ c.kind_number-k.ensures c.span_tag-p.ensures c.span_value-pv.ensures c.second_tag-q.ensures c.second_value-qv.ensures c.write.ensures c.write-2.ensures c.write-3.ensures c.write-4.ensures c.write-5.ensures c.write-6.ensures c.write-7.ensures c.write-8.ensures c.write-9.ensures
+returns c = error_stores _ _ _ _ _ _ _ _ _ _ _ _ _ _ _ _ _ c.kind_number.ensures c.span_tag.ensures c.span_value.ensures c.second_tag.ensures c.second_value.ensures c.write.ensures c.write-2.ensures c.write-3.ensures c.write-4.ensures c.write-5.ensures c.write-6.ensures c.write-7.ensures c.write-8.ensures c.write-9.ensures

@@ -1,10 +1,6 @@
-use mathlib.Core.Path.{◌≡◌}
-use Prim.Native.Nat.{◌≤◌, ◌-◌, ◌+◌}
+use Rattle.std.proofs.Common.{◌≡◌, ◌+◌, ◌-◌}
 use Rattle.refs.specs.Refs.{same_values}
 use Rattle.refs.proofs.same_values.Given as goal
 
 abbrev pub invariant-loop-i : goal.invariant-loop-i
-invariant-loop-i l = (l.i ≤ l.m) × (same_values l.m l.a l.b l.cells ≡ same_values (l.m - l.i) (l.a + l.i) (l.b + l.i) l.cells)
-
-abbrev pub decreases-loop-i : goal.decreases-loop-i
-decreases-loop-i l = l.m - l.i
+invariant-loop-i l = same_values l.m l.a l.b l.cells ≡ same_values (l.m - l.i) (l.a + l.i) (l.b + l.i) l.cells

@@ -4,4 +4,4 @@ use Rattle.report_text.proofs.put_lambda.Goals as goal
 
 pub returns : goal.returns
 unfolding lambda_text
-returns c = rw (← c.at.ensures, ← c.at-f.ensures, ← c.at-k.ensures) (then (then c.put_field-a.ensures c.put_cell-b.ensures) c.put_part.ensures)
+returns c = rw (← c.read.ensures, ← c.read-f.ensures, ← c.read-k.ensures) (then (then c.put_field-a.ensures c.put_cell-b.ensures) c.put_part.ensures)

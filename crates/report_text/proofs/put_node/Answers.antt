@@ -4,4 +4,4 @@ use Rattle.report_text.proofs.put_node.Goals as goal
 
 pub returns : goal.returns
 unfolding node_line
-returns c = rw (← c.at-e.ensures, ← c.at.ensures) (then (then (then c.put_option-a.ensures c.put_option-b.ensures) c.put_extra-d.ensures) c.put.ensures)
+returns c = rw (← c.read-e.ensures, ← c.read.ensures) (then (then (then c.put_option-a.ensures c.put_option-b.ensures) c.put_extra-d.ensures) c.put.ensures)

@@ -1,13 +1,7 @@
 use Rattle.report_text.specs.Lines.{type_line}
 use Rattle.tables.specs.Rows.{cells_to}
 use Rattle.output.specs.Output.{Appends}
-use lib.ListN.{length}
-use Prim.Native.Nat.{◌≤◌, ◌-◌}
-use mathlib.Core.Path.{◌≡◌}
 use Rattle.report_text.proofs.put_types.Given as goal
 
 abbrev pub invariant-loop-i : goal.invariant-loop-i
-invariant-loop-i l = Appends (cells_to (type_line l.t) l.i) l.initial.d l.initial.out l.d l.out × (l.i ≤ l.n) × (length l.out ≡ length l.initial.out)
-
-abbrev pub decreases-loop-i : goal.decreases-loop-i
-decreases-loop-i l = l.n - l.i
+invariant-loop-i l = Appends (cells_to (type_line l.t) l.i) l.initial.d l.initial.out l.d l.out

@@ -4,4 +4,4 @@ use Rattle.report_text.proofs.put_var.Goals as goal
 
 pub returns : goal.returns
 unfolding var_line
-returns c = rw (← c.at.ensures) (then (then (then c.put_kind-a.ensures c.put_option-b.ensures) c.put_option-d.ensures) c.put.ensures)
+returns c = rw (← c.read.ensures) (then (then (then c.put_kind-a.ensures c.put_option-b.ensures) c.put_option-d.ensures) c.put.ensures)

@@ -1,5 +1,5 @@
 use mathlib.Core.Path.{◌≡◌}
-use Prim.Native.Nat.{◌≤◌, ◌-◌}
+use Prim.Native.Nat.{◌-◌}
 use lib.ListN.{length}
 use Rattle.record.specs.Steps.{for_each}
 use Rattle.record.specs.Loops.{Onto}
@@ -8,7 +8,4 @@ use Rattle.resolve.specs.Resolve.{param, params}
 use Rattle.resolve.proofs.params.Given as goal
 
 abbrev pub invariant-loop-i : goal.invariant-loop-i
-invariant-loop-i l = (l.i ≤ l.k) × ((c : Record) → Onto l.initial.m c l.m c (params l.rows l.cells l.t) (for_each l.i (l.k - l.i) (param l.rows l.cells l.t))) × (length l.m ≡ length l.initial.m) × (l.k ≤ 255)
-
-abbrev pub decreases-loop-i : goal.decreases-loop-i
-decreases-loop-i l = l.k - l.i
+invariant-loop-i l = ((c : Record) → Onto l.initial.m c l.m c (params l.body.rows.now l.body.cells.now l.t) (for_each l.i (l.t.count - l.i) (param l.body.rows.now l.body.cells.now l.t))) × (length l.m ≡ length l.initial.m)

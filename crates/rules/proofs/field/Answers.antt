@@ -1,12 +1,16 @@
-use Rattle.rules.proofs.Laws.{field_err, field_inst, field_other}
+use native.Mathlib.Omega.{arith}
+use Rattle.rules.proofs.Laws.{field-there, field_absent, field_err, field_inst, field_other}
 use Rattle.record.specs.Runs.{typed_type}
 use Rattle.rules.proofs.field.Goals as goal
 
-pub returns-then-h-eq-HEAD_INSTANCE : goal.returns-then-h-eq-HEAD_INSTANCE
-returns-then-h-eq-HEAD_INSTANCE c = field_inst _ _ _ _ _ _ (c.head-h.ensures) _ _ (c.if-h-eq-HEAD_INSTANCE.true) (c.inst_of-k.ensures) (c.field_type-f.ensures) (c.field_of.ensures)
+pub returns-in-Some : goal.returns-in-Some
+returns-in-Some c = field_inst _ _ _ _ _ _ c.head.ensures _ _ c.in-5.is c.inst_of.ensures c.field_type.ensures (typed_type (field-there _ _ _ _ _ c.in-Some.is))
 
-pub returns-then-h-eq-HEAD_ERROR : goal.returns-then-h-eq-HEAD_ERROR
-returns-then-h-eq-HEAD_ERROR c = typed_type (field_err _ _ _ _ _ _ (c.head-h.ensures) (c.if-h-eq-HEAD_ERROR.true))
+pub returns-in-None : goal.returns-in-None
+returns-in-None c = field_inst _ _ _ _ _ _ c.head.ensures _ _ c.in-5.is c.inst_of.ensures c.field_type.ensures (typed_type (field_absent _ _ _ _ c.in-None.is c.own_error-r.ensures))
 
-pub returns : goal.returns
-returns c = typed_type (field_other _ _ _ _ _ _ (c.head-h.ensures) (c.if-h-eq-HEAD_INSTANCE.false) (c.if-h-eq-HEAD_ERROR.false) (c.own_error-r.ensures))
+pub returns-in-10 : goal.returns-in-10
+returns-in-10 c = typed_type (field_err _ _ _ _ _ _ c.head.ensures c.in-10.is)
+
+pub returns-in_default : goal.returns-in_default
+returns-in_default c = typed_type (field_other _ _ _ _ _ c.head.result c.head.ensures (λ e. omega arith) (λ e. omega arith) c.own_error-r-in_default.ensures)

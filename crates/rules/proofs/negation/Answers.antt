@@ -1,12 +1,13 @@
+use native.Mathlib.Omega.{arith}
 use Rattle.rules.proofs.Laws.{negate_int, negate_other, negate_variable}
 use Rattle.record.specs.Runs.{typed_type}
 use Rattle.rules.proofs.negation.Goals as goal
 
-pub returns-then-h-eq-HEAD_INT : goal.returns-then-h-eq-HEAD_INT
-returns-then-h-eq-HEAD_INT c = typed_type (negate_int _ _ _ (c.head-h.ensures) (c.if-h-eq-HEAD_INT.true))
+pub returns-in-2 : goal.returns-in-2
+returns-in-2 c = typed_type (negate_int _ _ _ c.head.ensures c.in-2.is)
 
-pub returns-then-h-eq-HEAD_INFER_TY : goal.returns-then-h-eq-HEAD_INFER_TY
-returns-then-h-eq-HEAD_INFER_TY c = typed_type (negate_variable _ _ _ (c.head-h.ensures) _ (c.if-h-eq-HEAD_INFER_TY.true) (c.var_of-v.ensures) (c.mark.ensures))
+pub returns-in-12 : goal.returns-in-12
+returns-in-12 c = typed_type (negate_variable _ _ _ c.head.ensures _ c.in-12.is c.var_of.ensures c.mark.ensures)
 
-pub returns : goal.returns
-returns c = negate_other _ _ _ (c.head-h.ensures) (c.if-h-eq-HEAD_INT.false) (c.if-h-eq-HEAD_INFER_TY.false) (c.no_unary_op.ensures)
+pub returns-in_default : goal.returns-in_default
+returns-in_default c = negate_other _ _ c.head.result c.head.ensures (λ e. omega arith) (λ e. omega arith) c.no_unary_op.ensures

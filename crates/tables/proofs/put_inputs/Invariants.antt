@@ -1,12 +1,8 @@
 use mathlib.Core.Path.{◌≡◌}
-use Prim.Native.Nat.{◌≤◌, ◌-◌}
 use lib.ListN.{length}
 use lib.Seq.{sets}
 use Rattle.type_table.specs.Memory.{inputs_from}
 use Rattle.tables.proofs.put_inputs.Given as goal
 
 abbrev pub invariant-loop-i : goal.invariant-loop-i
-invariant-loop-i l = (l.t ≡ sets l.initial.t l.at (inputs_from l.m l.f l.i)) × (l.i ≤ l.k) × (length l.t ≡ length l.initial.t)
-
-abbrev pub decreases-loop-i : goal.decreases-loop-i
-decreases-loop-i l = l.k - l.i
+invariant-loop-i l = (l.t ≡ sets l.initial.t l.at (inputs_from l.m l.f l.i)) × (length l.t ≡ length l.initial.t)

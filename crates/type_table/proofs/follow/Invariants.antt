@@ -1,9 +1,7 @@
 use mathlib.Core.Path.{◌≡◌}
+use Prim.Native.Nat.{◌-◌}
 use Rattle.type_table.specs.View.{end_from, end_in}
 use Rattle.type_table.proofs.follow.Given as goal
 
-abbrev pub invariant-loop-n : goal.invariant-loop-n
-invariant-loop-n l = end_from l.m l.c l.n l.y.0 ≡ end_in l.m l.c l.initial.y.0
-
-abbrev pub decreases-loop-n : goal.decreases-loop-n
-decreases-loop-n l = l.n
+abbrev pub invariant-loop-step : goal.invariant-loop-step
+invariant-loop-step l = end_from l.m l.c (l._step-end - l._step) l.y.0 ≡ end_in l.m l.c l.initial.y.0

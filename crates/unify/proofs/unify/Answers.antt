@@ -15,4 +15,4 @@ pub overflow_add-n-5 : goal.overflow_add-n-5
 overflow_add-n-5 c = let h = product (c.held-d.result.vars) (c.held-d.result.types + c.held-d.result.types + 1) (search rules) (search rules) in omega (arith, h)
 
 pub returns : goal.returns
-returns c = unify_solved (c.args.m.now) (c.args.c) (c.held-d.result) (c.args.x) (c.args.y) _ _ c.held-d.ensures c.clip-e.ensures c.clip-g.ensures _ (c.uni-a.result) _ c.uni-a.ensures c.answer_of.ensures
+returns c = unify_solved (c.args.m.now) (c.args.c) (c.held-d.result) (c.args.x) (c.args.y) _ _ c.held-d.ensures c.clip-e.ensures c.clip-g.ensures _ (c.uni.result) _ c.uni.ensures c.answer_of.ensures

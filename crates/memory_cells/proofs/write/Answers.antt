@@ -1,6 +1,0 @@
-use mathlib.Core.Path.{sym}
-use lib.Seq.{set_out}
-use Rattle.memory_cells.proofs.write.Goals as goal
-
-pub returns-else-i-m : goal.returns-else-i-m
-returns-else-i-m c = sym (set_out _ _ _ c.if-i-m.false)
