@@ -53,14 +53,14 @@ pub fn read_full(rt: &impl Input, buf: &mut [u8]) -> usize
 pub struct Console<'a, O, E> {
     pub out: &'a O,
     pub err: &'a E,
-    pub program: &'a str,
+    pub program: &'a [u8],
 }
 
 impl<O: Print, E: Print> Console<'_, O, E> {
     // Prints a text; where standard output cannot be written, a line on standard error.
     pub fn put(&self, s: &[u8]) {
         if self.out.write_all(s).is_err() {
-            self.complain("standard output cannot be written");
+            self.complain(b"standard output cannot be written\n");
         }
     }
 
@@ -72,8 +72,9 @@ impl<O: Print, E: Print> Console<'_, O, E> {
     }
 
     // A line on standard error, behind the program's name. Where that cannot be written, it is lost.
-    pub fn complain(&self, line: &str) {
-        let program = self.program;
-        let _ = println!(self.err; "{program}: {line}");
+    pub fn complain(&self, line: &[u8]) {
+        let _ = self.err.write_all(self.program);
+        let _ = self.err.write_all(b": ");
+        let _ = self.err.write_all(line);
     }
 }

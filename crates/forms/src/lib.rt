@@ -240,10 +240,10 @@ pub fn read_key(l: &[u8]) -> Key
             end: 4,
         };
     }
-    let word = lex::word_to(l, b'=');
+    let end = lex::field_end(l, 0, b'=');
     Key {
-        number: key_of(word.number),
-        end: word.end,
+        number: key_of(lex::pack(&l[..end])),
+        end,
     }
 }
 

@@ -13,7 +13,7 @@ use native.Mathlib.Nat.{add-zero, add-suc, add-sub_cancel_left}
 use native.Mathlib.Omega.{arith}
 use lib.Dec.{leb, ltb, eqb, leb-suc-suc}
 use lib.ListN.{length, get_or, take, drop, drop_of_length-le, length-drop}
-use lib.Seq.{drop-cons, drop-drop}
+use lib.Seq.{drop-cons, drop-drop, take-length}
 use borrow.Author.Tests.{lt-leb, le-leb, lt-ltb, le-ltb, eq-eqb, ne_eqb, ltb-true, ltb-false}
 use Rattle.lex.specs.Text.{number_of, digits_from, before, pack_from, letter, split, parts_from, numbered, scan_of}
 
@@ -113,19 +113,72 @@ before_most c (x ∷ xs) = by (eqb x c) (before_most c xs)
     by true h = zero-le
     by false h = omega (arith, h)
 
--- the end of a field, w, where it comes down to the rest from i
+-- the end of a field, w, where it comes down from the place e to the rest of a list from i
+module _ (w e : ℕ) (s : List ℕ) (i c : ℕ) (inv : w ≡ e + before c (drop i s)) where
+  pub ended : i < length s → get_or s i 0 ≡ c → e ≡ w
+  unfolding before
+  ended h q = sym (inv ∙ rw (next s i (get_or s i 0) h refl, eq-eqb (get_or s i 0) c q) (add-zero e))
+
+  pub beyond : i < length s → (get_or s i 0 ≡ c → ⊥) → w ≡ e + 1 + before c (drop (i + 1) s)
+  unfolding before
+  beyond h q = inv ∙ rw (next s i (get_or s i 0) h refl, ne_eqb (get_or s i 0) c q) (omega arith)
+
+  pub open_end : length s ≤ i → e ≡ w
+  unfolding before
+  open_end h = sym (inv ∙ rw (drop_of_length-le s h) (add-zero e))
+
+-- the same in the list itself, where the place is that of the rest
 module _ (w : ℕ) (s : List ℕ) (i c : ℕ) (inv : w ≡ i + before c (drop i s)) where
   pub found : i < length s → get_or s i 0 ≡ c → i ≡ w
-  unfolding before
-  found h q = sym (inv ∙ rw (next s i (get_or s i 0) h refl, eq-eqb (get_or s i 0) c q) (add-zero i))
+  found = ended w i s i c inv
 
   pub passed : i < length s → (get_or s i 0 ≡ c → ⊥) → w ≡ i + 1 + before c (drop (i + 1) s)
-  unfolding before
-  passed h q = inv ∙ rw (next s i (get_or s i 0) h refl, ne_eqb (get_or s i 0) c q) (omega arith)
+  passed = beyond w i s i c inv
 
   pub none : length s ≤ i → i ≡ w
-  unfolding before
-  none h = sym (inv ∙ rw (drop_of_length-le s h) (add-zero i))
+  none = open_end w i s i c inv
+
+-- four bytes of the rest r, the first of them at the place e
+module _ (w e : ℕ) (r : List ℕ) (c : ℕ) (inv : w ≡ e + before c r) (four : 4 ≤ length r) where
+  pub end_0 : get_or r 0 0 ≡ c → e ≡ w
+  end_0 = ended w e r 0 c inv (omega arith)
+
+  past_0 : (get_or r 0 0 ≡ c → ⊥) → w ≡ e + 1 + before c (drop 1 r)
+  past_0 = beyond w e r 0 c inv (omega arith)
+
+  pub end_1 : (get_or r 0 0 ≡ c → ⊥) → get_or r 1 0 ≡ c → e + 1 ≡ w
+  end_1 n = ended w (e + 1) r 1 c (past_0 n) (omega arith)
+
+  past_1 : (get_or r 0 0 ≡ c → ⊥) → (get_or r 1 0 ≡ c → ⊥) → w ≡ e + 2 + before c (drop 2 r)
+  past_1 n o = omega (arith, beyond w (e + 1) r 1 c (past_0 n) (omega arith) o)
+
+  pub end_2 : (get_or r 0 0 ≡ c → ⊥) → (get_or r 1 0 ≡ c → ⊥) → get_or r 2 0 ≡ c → e + 2 ≡ w
+  end_2 n o = ended w (e + 2) r 2 c (past_1 n o) (omega arith)
+
+  past_2 : (get_or r 0 0 ≡ c → ⊥) → (get_or r 1 0 ≡ c → ⊥) → (get_or r 2 0 ≡ c → ⊥) → w ≡ e + 3 + before c (drop 3 r)
+  past_2 n o p = omega (arith, beyond w (e + 2) r 2 c (past_1 n o) (omega arith) p)
+
+  pub end_3 : (get_or r 0 0 ≡ c → ⊥) → (get_or r 1 0 ≡ c → ⊥) → (get_or r 2 0 ≡ c → ⊥) → get_or r 3 0 ≡ c → e + 3 ≡ w
+  end_3 n o p = ended w (e + 3) r 3 c (past_2 n o p) (omega arith)
+
+  pub past_3 : (get_or r 0 0 ≡ c → ⊥) → (get_or r 1 0 ≡ c → ⊥) → (get_or r 2 0 ≡ c → ⊥) → (get_or r 3 0 ≡ c → ⊥) → w ≡ e + 4 + before c (drop 4 r)
+  past_3 n o p q = omega (arith, beyond w (e + 3) r 3 c (past_2 n o p) (omega arith) q)
+
+-- behind four elements stands all of the rest
+take_behind : (r : List ℕ) → take (length r - 4) (drop 4 r) ≡ drop 4 r
+take_behind r = rw (← length-drop 4 r) (take-length (drop 4 r))
+
+-- a turn of four bytes: what is kept of the place e and the rest r behind it, of the places from p up to m
+abbrev pub Turns : ℕ → ℕ → ℕ → ℕ → ℕ → List ℕ → Type 0
+Turns w p m c e r = (p ≤ e) × (e + length r ≡ m) × (w ≡ e + before c r)
+
+pub turned : (w p m c e : ℕ) (r : List ℕ) → Turns w p m c e r → 4 ≤ length r → (get_or r 0 0 ≡ c → ⊥) → (get_or r 1 0 ≡ c → ⊥) → (get_or r 2 0 ≡ c → ⊥) → (get_or r 3 0 ≡ c → ⊥)
+    → Turns w p m c (e + 4) (take (length r - 4) (drop 4 r))
+turned w p m c e r t h n o q k = rw (take_behind r) (omega (arith, t.0), omega (arith, t.1, length-drop 4 r), past_3 w e r c t.2 h n o q k)
+
+-- and behind one
+pub stepped : (w p m c e k : ℕ) (r : List ℕ) → Turns w p m c e (drop k r) → k < length r → (get_or r k 0 ≡ c → ⊥) → Turns w p m c (e + 1) (drop (k + 1) r)
+stepped w p m c e k r t h n = (omega (arith, t.0), omega (arith, t.1, length-drop k r, length-drop (k + 1) r), beyond w e r k c t.2 h n)
 
 -- with no separator it is the end of s, or p where it is behind the end
 pub to_end : (s : List ℕ) (p i c : ℕ) → p + before c (drop p s) ≡ i + before c (drop i s) → length s ≤ i → (p ≤ length s → i ≤ length s) → max p (length s) ≡ p + before c (drop p s)

@@ -59,20 +59,30 @@ pub fn field_end(s: &[u8], p: usize, c: u8) -> usize
     ensures within { (p ≤ result) × (result - p ≤ length s.now - p) }
 {
     let mut e = p;
-    while s.len().saturating_sub(e) >= 4 {
-        for i in e..e + 4 {
-            if s[i] == c {
-                return i;
-            }
+    let mut rest = s.get(p..).unwrap_or(&[]);
+    while let [x, y, z, w, behind @ ..] = rest {
+        if *x == c {
+            return e;
+        }
+        if *y == c {
+            return e + 1;
+        }
+        if *z == c {
+            return e + 2;
+        }
+        if *w == c {
+            return e + 3;
         }
         e += 4;
+        rest = behind;
     }
-    for i in e..s.len() {
-        if s[i] == c {
-            return i;
+    for x in rest {
+        if *x == c {
+            return e;
         }
+        e += 1;
     }
-    p.max(s.len())
+    e
 }
 
 // A word as one number, 0 where it is too long or has a byte 0.

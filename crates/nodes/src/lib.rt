@@ -528,7 +528,8 @@ impl Body<'_> {
 
     // ── fields and methods ──
 
-    // The number of the first item of a name.
+    // The number of the first item of a name. Not copied into its callers, for speed: its loop needs the registers.
+    #[inline(never)]
     fn named(self, t: Items, name: u16) -> Option<u16>
         ensures { result ≡ Rattle.nodes.specs.Nodes.named self.entry.cells.now t name }
     {

@@ -10,9 +10,10 @@ use Prim.Native.Nat.{ℕ, zero, suc, ◌+◌, ◌-◌, ◌/◌, ◌%◌, ◌≤�
 use lib.ListN.{length, drop, take, set, get_or, replicate, length-append, length-drop}
 use lib.Dec.{ltb}
 use borrow.Author.Tests.{ltb-false, ltb-true}
-use lib.Seq.{take-suc}
-use Rattle.output.specs.Output.{full, Written, Appends, Finishes, output, ended, zeros, digits_of}
-use Rattle.output.specs.Appending.{then, appends_as, append_none}
+use lib.Seq.{take-suc, take-length}
+use Rattle.std.proofs.lemmas.List.{append_assoc, length-set}
+use Rattle.output.specs.Output.{full, Written, Appends, Finishes, output, ended, zeros, digits_of, number_text}
+use Rattle.output.specs.Appending.{then, appends_as}
 
 -- ── a byte ──
 
@@ -54,30 +55,51 @@ next_of s i lt p q = appends_as (sym (take-suc s i 0 lt) ∙ ap (λ k. take k s)
 
 -- ── digits ──
 
--- no digit
-pub no_digits : {k : ℕ} (n : ℕ) (c : ℕ) (x : List ℕ) → k ≡ 0 → Appends (digits_of k n) c x c x
-unfolding digits_of
-no_digits n c x e = subst (λ k. Appends (digits_of k n) c x c x) (sym e) (append_none c x)
+-- what a room ds of twenty digits holds behind its place a, and what of the number n is still to be written
+abbrev pub Digits : ℕ → ℕ → ℕ → List ℕ → Type 0
+Digits n a r ds = (a ≤ 20) × (length ds ≡ 20) × (number_text n ≡ digits_of a r ++ drop a ds)
 
--- one digit
-pub one_digit : {k n b : ℕ} {c d : ℕ} {x y : List ℕ} → (k ≡ 0 → ⊥) → n < 10 → b ≡ 48 + n % 10 → Appends (b ∷ []) c x d y → Appends (digits_of k n) c x d y
-unfolding digits_of
-one_digit {k = zero} ne lt e p = absurd (ne refl)
-one_digit {k = suc k} {n = n} ne lt e p = appends_as (ap (λ a. a ∷ []) e ∙ by (ltb n 10) refl) p
-  where
-    by : (t : Bool) → ltb n 10 ≡ t → (48 + n % 10) ∷ [] ≡ cond t ((48 + n % 10) ∷ []) (digits_of k (n / 10) ++ ((48 + n % 10) ∷ []))
-    by true h = refl
-    by false h = absurd (omega (arith, lt, ltb-false n 10 h))
+-- a digit written before those behind it
+set_at : (i b : ℕ) (ds : List ℕ) → i < length ds → drop i (set ds i b) ≡ b ∷ drop (suc i) ds
+set_at i b [] h = absurd (omega (arith, h))
+set_at zero b (x ∷ ds) h = refl
+set_at (suc i) b (x ∷ ds) h = set_at i b ds (omega (arith, h))
 
--- a digit behind others
-pub more_digits : {k n b : ℕ} {c d e : ℕ} {x y z : List ℕ} → (k ≡ 0 → ⊥) → 10 ≤ n → b ≡ 48 + n % 10 → Appends (digits_of (k - 1) (n / 10)) c x d y → Appends (b ∷ []) d y e z → Appends (digits_of k n) c x e z
+-- all that stands behind the place i
+all_behind : (i : ℕ) (l : List ℕ) → length l ≡ 20 → take (20 - i) (drop i l) ≡ drop i l
+all_behind i l h = ap (λ k. take (k - i) (drop i l)) (sym h) ∙ ap (λ k. take k (drop i l)) (sym (length-drop i l)) ∙ take-length (drop i l)
+
+-- the digit that is the first
+first_digit : (a r : ℕ) (w ds : List ℕ) → 0 < a → a ≤ length ds → r < 10 → w ≡ digits_of a r ++ drop a ds → drop (a - 1) (set ds (a - 1) (48 + r % 10)) ≡ w
 unfolding digits_of
-more_digits {k = zero} ne ge e p q = absurd (ne refl)
-more_digits {k = suc k} {n = n} ne ge e p q = appends_as (ap (λ a. digits_of k (n / 10) ++ (a ∷ [])) e ∙ by (ltb n 10) refl) (then (appends_as (ap (λ j. digits_of j (n / 10)) (sub-one (suc k))) p) q)
+first_digit zero r w ds p h lt inv = absurd (omega (arith, p))
+first_digit (suc k) r w ds p h lt inv = rw (sub-one (suc k)) (set_at k (48 + r % 10) ds (omega (arith, h)) ∙ sym (inv ∙ by (ltb r 10) refl))
   where
-    by : (t : Bool) → ltb n 10 ≡ t → digits_of k (n / 10) ++ ((48 + n % 10) ∷ []) ≡ cond t ((48 + n % 10) ∷ []) (digits_of k (n / 10) ++ ((48 + n % 10) ∷ []))
-    by true h = absurd (omega (arith, ge, ltb-true n 10 h))
-    by false h = refl
+    by : (t : Bool) → ltb r 10 ≡ t → cond t ((48 + r % 10) ∷ []) (digits_of k (r / 10) ++ ((48 + r % 10) ∷ [])) ++ drop (suc k) ds ≡ (48 + r % 10) ∷ drop (suc k) ds
+    by true q = refl
+    by false q = absurd (omega (arith, lt, ltb-false r 10 q))
+
+-- a digit with others before it
+next_digit : (a r : ℕ) (w ds : List ℕ) → 0 < a → a ≤ length ds → 10 ≤ r → w ≡ digits_of a r ++ drop a ds → w ≡ digits_of (a - 1) (r / 10) ++ drop (a - 1) (set ds (a - 1) (48 + r % 10))
+unfolding digits_of
+next_digit zero r w ds p h ge inv = absurd (omega (arith, p))
+next_digit (suc k) r w ds p h ge inv = rw (sub-one (suc k)) (inv ∙ by (ltb r 10) refl ∙ ap (λ l. digits_of k (r / 10) ++ l) (sym (set_at k (48 + r % 10) ds (omega (arith, h)))))
+  where
+    by : (t : Bool) → ltb r 10 ≡ t → cond t ((48 + r % 10) ∷ []) (digits_of k (r / 10) ++ ((48 + r % 10) ∷ [])) ++ drop (suc k) ds ≡ digits_of k (r / 10) ++ ((48 + r % 10) ∷ drop (suc k) ds)
+    by true q = absurd (omega (arith, ge, ltb-true r 10 q))
+    by false q = append_assoc (digits_of k (r / 10)) ((48 + r % 10) ∷ []) (drop (suc k) ds)
+
+module _ (n a r : ℕ) (ds : List ℕ) (inv : Digits n a r ds) where
+  -- the text is written from the first digit on
+  pub digits_done : 0 < a → r < 10 → {c d : ℕ} {x z y : List ℕ} → x ≡ z → Appends (take (20 - (a - 1)) (drop (a - 1) (set ds (a - 1) (48 + r % 10)))) c x d y → Appends (number_text n) c z d y
+  digits_done p lt {c = c} {d = d} {y = y} e q = subst (λ z. Appends (number_text n) c z d y) e (appends_as (all_behind (a - 1) (set ds (a - 1) (48 + r % 10)) (length-set ds (a - 1) (48 + r % 10) ∙ inv.1) ∙ first_digit a r (number_text n) ds p (omega (arith, inv.0, inv.1)) lt inv.2) q)
+
+  pub digits_more : 0 < a → 10 ≤ r → Digits n (a - 1) (r / 10) (set ds (a - 1) (48 + r % 10))
+  digits_more p ge = (omega (arith, inv.0), length-set ds (a - 1) (48 + r % 10) ∙ inv.1, next_digit a r (number_text n) ds p (omega (arith, inv.0, inv.1)) ge inv.2)
+
+  pub digits_all : a ≤ 0 → {c d : ℕ} {x z y : List ℕ} → x ≡ z → Appends ds c x d y → Appends (number_text n) c z d y
+  unfolding digits_of
+  digits_all none {c = c} {d = d} {y = y} e q = let k : a ≡ 0 = omega (arith, none) in subst (λ z. Appends (number_text n) c z d y) e (appends_as (sym (inv.2 ∙ rw k refl)) q)
 
 -- ── the end ──
 

@@ -2,8 +2,8 @@
 // and so it stays. The bytes behind the text are unchanged as long as all of it has room.
 #![tactic(auto)]
 
-ghost use Rattle.std.specs.Prelude.{◌∷◌, [], ◌++◌};
-ghost use Rattle.output.specs.Output.{Appends, Finishes, number_text, digits_of, newline};
+ghost use Rattle.std.specs.Prelude.{◌≡◌, ◌∷◌, [], ◌++◌};
+ghost use Rattle.output.specs.Output.{Appends, Finishes, number_text, newline, zeros};
 
 // The cursor behind a byte that had no room: no output is that long.
 pub const FULL: usize = usize::MAX;
@@ -31,26 +31,20 @@ pub fn put_all(out: &mut [u8], c: usize, s: &[u8]) -> usize
     d
 }
 
-// The digits of a number, at most k of them, the last ones.
-fn put_digits(out: &mut [u8], c: usize, n: usize, k: u8) -> usize
-    ensures { Appends (digits_of k n) c out.old result out.new }
-{
-    if k == 0 {
-        return c;
-    }
-    let d = if n < 10 {
-        c
-    } else {
-        put_digits(out, c, n / 10, k - 1)
-    };
-    put(out, d, b'0' + (n % 10) as u8)
-}
-
-// A number in decimal digits, of which it has at most twenty.
+// A number in decimal digits, of which it has at most twenty: the last one first, into a room of their own.
 pub fn put_number(out: &mut [u8], c: usize, n: usize) -> usize
     ensures { Appends (number_text n) c out.old result out.new }
 {
-    put_digits(out, c, n, 20)
+    let mut digits = [0u8; 20];
+    let mut rest = n;
+    for at in (0..20usize).rev() {
+        digits[at] = b'0' + (rest % 10) as u8;
+        if rest < 10 {
+            return put_all(out, c, &digits[at..]);
+        }
+        rest /= 10;
+    }
+    put_all(out, c, &digits)
 }
 
 // Bytes, and a number behind them.
@@ -69,12 +63,19 @@ pub fn put_line(out: &mut [u8], c: usize, s: &[u8], n: usize) -> usize
     put(out, d, b'\n')
 }
 
+// Zeros throughout.
+fn clear(out: &mut [u8])
+    ensures { out.new ≡ zeros out.old }
+{
+    out.fill(0);
+}
+
 // The end of a text, None where it had no room; then the output is zeros throughout.
 pub fn finish(out: &mut [u8], c: usize) -> Option<usize>
     ensures { Finishes c out.old result out.new }
 {
     if c == FULL {
-        out.fill(0);
+        clear(out);
         None
     } else {
         Some(c)

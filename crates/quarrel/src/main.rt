@@ -23,10 +23,10 @@ fn main(rt: HostRuntime) {
     let console = Console {
         out: &rt,
         err: &rt.stderr(),
-        program: "quarrel",
+        program: b"quarrel",
     };
     match lines_wanted(&rt) {
         Some(lines) => quarrel_program::run(&rt, &console, Sought::Minimal(lines)),
-        None => console.complain("the one argument that is known is where"),
+        None => console.complain(b"the one argument that is known is where\n"),
     }
 }

@@ -69,6 +69,6 @@ pub fn run<O: Print, E: Print>(rt: &impl Input, console: &Console<'_, O, E>, sou
     let mut buf = [0u8; body_input::INPUT];
     match body_input::read_input(rt, &mut buf) {
         Ok(n) => run_body(console, &buf[..n], sought),
-        Err(_) => console.complain("standard input cannot be read"),
+        Err(_) => console.complain(b"standard input cannot be read\n"),
     }
 }

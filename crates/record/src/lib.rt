@@ -472,10 +472,11 @@ pub fn start(m: &mut [u16], output: TypeId) -> Record
 
 // ── what a rule answers ──
 
-// The refusal that ends the walk: its number, the record with it, and the node whose rule ran.
+// The refusal that ends the walk: the record with it, the node whose rule ran, and its number. The record stands first, where it stands
+// in an answer too, so that it is copied in whole words.
 #[derive(Clone, Copy)]
 pub struct Refusal {
-    pub number: u8,
     pub record: Record,
     pub node: NodeId,
+    pub number: u8,
 }

@@ -304,7 +304,8 @@ fn is_same(rows: &[u16], cells: &[u16], r: u32, f: u16, b: u16, m: u16) -> bool
     form_of(rows, r) == f && count_of(rows, r) == m && same_values(cells, first_of(rows, r), b, m)
 }
 
-// One of the first n rows is the same.
+// One of the first n rows is the same. Not copied into its caller, for speed: its loop needs the registers.
+#[inline(never)]
 pub fn is_repeated(rows: &[u16], cells: &[u16], n: u16, f: u16, b: u16, m: u16) -> bool
     ensures { result ≡ is_repeated n types_at rows.now cells.now f b m }
 {

@@ -300,12 +300,12 @@ module _ (rows cells : List ℕ) {m : List ℕ} {c : Record} (n x h : ℕ) (is :
   callee_def d o t e f = then _ (runs_shape_of x) (rw (row_fn m c.counts.types x (sym is ∙ t), ← e, f) runs_done)
 
   -- a lambda
-  callee_lambda : (o : ℕ) → h ≡ 13 → o ≡ output_at m c.counts.types x → Runs m c m c (callee_of rows cells n x) (some (callee.Type (record { 0 = x }), o))
+  pub callee_lambda : (o : ℕ) → h ≡ 13 → o ≡ output_at m c.counts.types x → Runs m c m c (callee_of rows cells n x) (some (callee.Type (record { 0 = x }), o))
   unfolding callee_of
   callee_lambda o t e = then _ (runs_shape_of x) (rw (row_lam m c.counts.types x (sym is ∙ t), e) runs_done)
 
   -- a function type
-  callee_function : (o : ℕ) → h ≡ 6 → o ≡ output_at m c.counts.types x → Runs m c m c (callee_of rows cells n x) (some (callee.Type (record { 0 = x }), o))
+  pub callee_function : (o : ℕ) → h ≡ 6 → o ≡ output_at m c.counts.types x → Runs m c m c (callee_of rows cells n x) (some (callee.Type (record { 0 = x }), o))
   unfolding callee_of
   callee_function o t e = then _ (runs_shape_of x) (rw (row_fun m c.counts.types x (sym is ∙ t), e) runs_done)
 
@@ -472,12 +472,12 @@ module _ {m m' : List ℕ} {c : Record} {z : Result (Record × TypeId) Refusal} 
   op_address o e x h R = rw h R
 
   -- RES f
-  res_fn : (n : ℕ) (r : Res) (d : DefId) → r ≡ res.Fn d → Types m c m' z (fn_def_lem d.0) → Types m c m' z (type_res n r)
+  pub res_fn : (n : ℕ) (r : Res) (d : DefId) → r ≡ res.Fn d → Types m c m' z (fn_def_lem d.0) → Types m c m' z (type_res n r)
   unfolding type_res
   res_fn n r d h R = rw h R
 
   -- RES c
-  res_ctor : (n : ℕ) (r : Res) (d : DefId) → r ≡ res.Ctor d → Types m c m' z (fn_def_lem d.0) → Types m c m' z (type_res n r)
+  pub res_ctor : (n : ℕ) (r : Res) (d : DefId) → r ≡ res.Ctor d → Types m c m' z (fn_def_lem d.0) → Types m c m' z (type_res n r)
   unfolding type_res
   res_ctor n r d h R = rw h R
 
@@ -519,22 +519,22 @@ module _ {m : List ℕ} {c : Record} where
 
   module _ (b : Body) (n k : ℕ) (r : Res) (t : Items) where
     -- a partly failed path of RES l
-    failed_local : (l : NodeId) → r ≡ res.Local l → Stops m c m c (failed_path b n r k t) 10 n
+    pub failed_local : (l : NodeId) → r ≡ res.Local l → Stops m c m c (failed_path b n r k t) 10 n
     unfolding failed_path
     failed_local l h = rw h stops_refuse
 
     -- of RES f
-    failed_fn : (d : DefId) → r ≡ res.Fn d → Stops m c m c (failed_path b n r k t) 10 n
+    pub failed_fn : (d : DefId) → r ≡ res.Fn d → Stops m c m c (failed_path b n r k t) 10 n
     unfolding failed_path
     failed_fn d h = rw h stops_refuse
 
     -- of RES c
-    failed_ctor : (d : DefId) → r ≡ res.Ctor d → Stops m c m c (failed_path b n r k t) 10 n
+    pub failed_ctor : (d : DefId) → r ≡ res.Ctor d → Stops m c m c (failed_path b n r k t) 10 n
     unfolding failed_path
     failed_ctor d h = rw h stops_refuse
 
     -- of RES o
-    failed_o : r ≡ res.Other → Stops m c m c (failed_path b n r k t) 10 n
+    pub failed_o : r ≡ res.Other → Stops m c m c (failed_path b n r k t) 10 n
     unfolding failed_path
     failed_o h = rw h stops_refuse
 

@@ -1,4 +1,6 @@
 // The typing rules, as far as they type no other node: what a rule does once its children have their types.
+// Those marked `inline(never)` have frames of their own: in the frame of `walk::rule`, which is entered once for each level, they would be
+// counted 64 times.
 #![tactic(auto)]
 
 ghost use Rattle.std.specs.Prelude.{Some, ◌≡◌};
@@ -220,6 +222,7 @@ fn not(m: &mut [u16], c: Record, e: NodeId, x: TypeId) -> Result<(Record, TypeId
 }
 
 // `typeck_expr_un_op`, of an operand of the type x.
+#[inline(never)]
 pub fn un_op(
     m: &mut [u16],
     c: Record,
@@ -284,6 +287,7 @@ pub fn op_assign(
 // ── fields, lists, indices ──
 
 // `typeck_expr_field`, of a source of the type x.
+#[inline(never)]
 pub fn field(
     body: Body<'_>,
     m: &mut [u16],
@@ -348,6 +352,7 @@ pub fn element(
 }
 
 // `typeck_expr_index`: whether a type has elements.
+#[inline(never)]
 pub fn element_of(m: &mut [u16], c: Record, n: NodeId, x: TypeId) -> Result<TypeId, Record>
     ensures { Indexes m.old c m.new result (element_of n.0 x.0) }
 {
@@ -382,6 +387,7 @@ pub fn index(
 // ── if, return, let ──
 
 // `if` wants Bool itself, not a variable.
+#[inline(never)]
 pub fn condition(m: &mut [u16], c: Record, e: NodeId, x: TypeId) -> Record
     ensures { Runs m.old c m.new result (Rattle.rules.specs.Rules.condition e.0 x.0) tt }
 {
@@ -513,6 +519,7 @@ pub fn let_with_init(
 // ── calls ──
 
 // `ExprKind::Call`, by the callee's raw type.
+#[inline(never)]
 pub fn callee(
     body: Body<'_>,
     m: &mut [u16],
@@ -534,6 +541,7 @@ pub fn callee(
 }
 
 // `verify_arguments_for_call`: the amounts first.
+#[inline(never)]
 pub fn amounts(body: Body<'_>, m: &mut [u16], c: Record, p: Span, f: Callee, given: u16) -> Record
     ensures { Runs m.old c m.new result (Rattle.rules.specs.Rules.amounts body.entry.rows.now body.entry.cells.now p f given) tt }
 {
@@ -572,6 +580,7 @@ pub fn argument(
 }
 
 // `typeck_expr_meth_call`: the method of a name for a receiver of the type x.
+#[inline(never)]
 pub fn method_of(
     body: Body<'_>,
     m: &mut [u16],
@@ -615,6 +624,7 @@ fn lambda_param(body: Body<'_>, m: &mut [u16], c: Record, n: NodeId) -> Record
 }
 
 // `typeck_lambda`: its params, in order.
+#[inline(never)]
 pub fn lambda_params(body: Body<'_>, m: &mut [u16], c: Record, t: Items) -> Record
     ensures { Runs m.old c m.new result (lambda_params body.entry.rows.now body.entry.cells.now t) tt }
 {
@@ -640,6 +650,7 @@ pub fn lambda_output(m: &mut [u16], c: Record, n: NodeId, t: Option<TypeId>) -> 
 }
 
 // The output of a lambda against the type y of its body b; then its type is made.
+#[inline(never)]
 pub fn lambda(
     body: Body<'_>,
     m: &mut [u16],
@@ -786,6 +797,7 @@ fn failed_path(
 }
 
 // `typeck_expr_path`.
+#[inline(never)]
 pub fn path(
     body: Body<'_>,
     m: &mut [u16],

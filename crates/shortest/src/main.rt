@@ -35,12 +35,12 @@ fn main(rt: HostRuntime) {
     let console = Console {
         out: &rt,
         err: &rt.stderr(),
-        program: "shortest",
+        program: b"shortest",
     };
     match search_wanted(&rt) {
         Some(sought) => quarrel_program::run(&rt, &console, sought),
         None => console.complain(
-            "the arguments are a number of subsets below 2^64, and where if the places are wanted",
+            b"the arguments are a number of subsets below 2^64, and where if the places are wanted\n",
         ),
     }
 }

@@ -17,11 +17,11 @@ fn main(rt: HostRuntime) {
     let console = Console {
         out: &rt,
         err: &rt.stderr(),
-        program: "typereport",
+        program: b"typereport",
     };
     let mut buf = [0u8; body_input::INPUT];
     match body_input::read_input(&rt, &mut buf) {
         Ok(n) => run(&console, &buf[..n]),
-        Err(_) => console.complain("standard input cannot be read"),
+        Err(_) => console.complain(b"standard input cannot be read\n"),
     }
 }

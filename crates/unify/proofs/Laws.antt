@@ -39,7 +39,7 @@ unfolding kind_in kind_at
 kind_in_lem m c u r p = rw p (kind_code_lem (var_cell m c.vars u 0)) ∙ sym (kind_at_lem m c.vars u)
 
 module _ (m : List ℕ) (c : Counts) (z : TypeId) (h : ℕ) (p : h ≡ head_at m c.types z.0) where
-  class_at : (r : Kind) → h ≢ 12 → kind_k r ≡ pick (eqb h 1) integer (pick (eqb h 2) integer (pick (eqb h 3) floating (pick (eqb h 4) floating regular))) → Classed m c z r
+  pub class_at : (r : Kind) → h ≢ 12 → kind_k r ≡ pick (eqb h 1) integer (pick (eqb h 2) integer (pick (eqb h 3) floating (pick (eqb h 4) floating regular))) → Classed m c z r
   class_at r d q k = fits_row m c.types z.0 (kinds_of m c.vars) k (rw p at d) ∙ rw (← p, ← q)
 
   pub class_integer : (h ≡ 1) ⊎ (h ≡ 2) → Classed m c z Integer

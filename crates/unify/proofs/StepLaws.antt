@@ -195,7 +195,7 @@ module _ (m : List ℕ) (c : Counts) (x z : TypeId) (h : ℕ) (p : h ≡ head_at
         rw (o, as_var_z, i, regular_fits (kinds_in m c) (row_in m c x))
 
     -- two number variables that do not fit
-    exchange_number : (l : Kind) → k ≡ l → is_regular (kind_k l) ≡ false → Exchanges m c x z None
+    pub exchange_number : (l : Kind) → k ≡ l → is_regular (kind_k l) ≡ false → Exchanges m c x z None
     unfolding act at_var
     exchange_number l r n v a f rec =
         let i : is_regular (kind (kinds_in m c) u) ≡ false = rw (← (kind_in_lem m c u k pk), r) n in

@@ -61,7 +61,8 @@ struct File<'a> {
 }
 
 impl File<'_> {
-    // It is written into a room of m bytes.
+    // It is written into a room of m bytes. Not copied into its caller, so that one room is on the stack at a time.
+    #[inline(never)]
     fn has_room(&self, m: usize) -> bool {
         let mut all = [BYTE_BEFORE; body_text::ROOM];
         if m > body_text::ROOM {
@@ -72,7 +73,8 @@ impl File<'_> {
         holds(room, e, self.bytes)
     }
 
-    // A room of m bytes is too short.
+    // A room of m bytes is too short. Likewise.
+    #[inline(never)]
     fn has_no_room(&self, m: usize) -> bool {
         let mut all = [BYTE_BEFORE; body_text::ROOM];
         if m > body_text::ROOM {
