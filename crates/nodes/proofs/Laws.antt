@@ -4,26 +4,20 @@ use mathlib.Core.Path.{◌≡◌, refl, sym, ◌∙◌}
 use mathlib.Core.List.{List, [], ◌∷◌}
 use mathlib.Core.Logic.{◌⊎◌, inl, inr}
 use mathlib.Core.Bool.{Bool, true, false}
-use Prim.Native.Nat.{ℕ, suc, zero, ◌+◌, ◌-◌, ◌<◌, ◌≤◌}
+use Prim.Native.Nat.{ℕ, suc, zero, ◌+◌, ◌*◌, ◌-◌, ◌<◌, ◌≤◌}
 use native.Mathlib.Omega.{arith}
-use native.Mathlib.Nat.{zero-add}
 use native.Mathlib.Numerals.{add-one}
-use lib.ListN.{length}
+use lib.ListN.{length, get_or}
 use lib.Dec.{eqb}
 use borrow.Author.Tests.{eq-eqb, ne_eqb}
 use Rattle.theory.specs.Rules.{Shape, row}
 use Rattle.type_table.specs.Memory.{cell, inputs_at, head_at, number_at, first_at, count_at, inputs_from, rows_of}
 use Rattle.type_table.specs.declared.DefId.{DefId}
-use Rattle.refs.specs.Refs.{types_at, nodes_at, insts_at, binds_at, form_in, first_in, count_in, name_in, tag_in, value_in}
+use Rattle.refs.specs.Refs.{name_in, tag_in, value_in}
 use Rattle.nodes.specs.declared.Items.{Items}
-use Rattle.nodes.specs.declared.Field.{Field}
-use Rattle.nodes.specs.declared.Node.{Node}
-use Rattle.nodes.specs.declared.Node.TheVariants as form
-use Rattle.nodes.specs.declared.TypeRow.{TypeRow}
-use Rattle.nodes.specs.Nodes.{field_in, behind, numbers_from, node_of, node_at, type_row_of, type_row_at, shape_inputs, def_inputs, item, items_of, nth, named_from, as_type, as_def, field_type, as_arr, of_functions, binds_for, named, method_in, method_from, failed_from}
+use Rattle.nodes.specs.Nodes.{numbers_from, shape_inputs, def_inputs, item, items_of, nth, named_from, as_arr, of_functions, binds_for, method_in, method_from, failed_from}
 use Rattle.nodes.specs.Numbers.{length_items}
 use Rattle.nodes.specs.Shapes.{row_inputs, row_element, row_is_fun, row_fun, row_lam, row_arr}
-use Rattle.type_table.specs.declared.TypeId.{TypeId}
 
 -- where one more is to come, that one comes first
 one_more_lem : (k i : ℕ) → i < k → k - i ≡ suc (k - (i + 1))
@@ -100,6 +94,15 @@ module _ (m : List ℕ) (n x h : ℕ) (hq : h ≡ head_at m n x) where
   inputs_none d e = sym (row_inputs m n x ∙ rw (← hq, ne_eqb h 6 d, ne_eqb h 13 e))
 
 -- ── fields and methods ──
+
+-- the name and the value of the field at a place, read from their cells
+pub name_at : (cells : List ℕ) (p j : ℕ) → p ≡ j → get_or cells (p * 3) 0 ≡ name_in cells j
+unfolding name_in
+name_at cells p j e = rw e refl
+
+pub value_at : (cells : List ℕ) (p j : ℕ) → p ≡ j → get_or cells (p * 3 + 2) 0 ≡ value_in cells j
+unfolding value_in
+value_at cells p j e = rw e refl
 
 -- what is asked (w) comes down to the fields from i on
 module _ (w : Option ℕ) (cells : List ℕ) (j k i name : ℕ) (inv : w ≡ named_from cells (j + i) (k - i) name) where

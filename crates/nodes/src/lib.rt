@@ -533,6 +533,16 @@ impl Body<'_> {
     fn named(self, t: Items, name: u16) -> Option<u16>
         ensures { result ≡ Rattle.nodes.specs.Nodes.named self.entry.cells.now t name }
     {
+        // Where all items stand in the table, as behind the reader, the loop tests no place.
+        if t.place(t.count) as usize * 3 <= self.cells.len() {
+            for k in 0..t.count {
+                let at = t.place(k) as usize * 3;
+                if self.cells[at] == name {
+                    return Some(self.cells[at + 2]);
+                }
+            }
+            return None;
+        }
         for i in 0..t.count {
             let j = t.place(i);
             if refs::name_of(self.cells, j) == name {
