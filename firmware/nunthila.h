@@ -4,8 +4,8 @@
    slices may overlap. Nothing is kept between two calls, no memory is taken, and no table has to be cleared before a call.
    docs/TABLES.md has the tables cell by cell.
 
-   The library calls memset, which the firmware has to provide, and nothing else. Its stack is measured, not proved: at most 106,648 bytes of
-   nunthila_check and 106,744 of nunthila_report, and 107,096 of nunthila_quarrel and nunthila_shortest (docs/TABLES.md says on which bodies). */
+   The library calls memset, which the firmware has to provide, and nothing else. Its stack is measured, not proved: at most 102,600 bytes of
+   nunthila_check and 102,696 of nunthila_report, and 103,048 of nunthila_quarrel and nunthila_shortest (docs/TABLES.md says on which bodies). */
 #ifndef NUNTHILA_H
 #define NUNTHILA_H
 

@@ -115,7 +115,12 @@ pub fn next_sample(rt: &impl Input, part: &mut Part, sample: &mut Sample, p: Pla
 pub fn filled<T: PartialEq>(s: &[T], f: usize, x: &T) -> bool
     ensures { length s.now ≤ f → result ≡ true }
 {
-    s.iter().skip(f).all(|c| c == x)
+    for i in f..s.len() {
+        if s[i] != *x {
+            return false;
+        }
+    }
+    true
 }
 
 // Every byte from the place f on is x.

@@ -14,7 +14,7 @@
 //! Numbers of types: 0 to 13 are nil, bool, u8, u16, u32, u64, i8, i16, i32, i64, f32, f64, err, diverges; then come the `type` lines
 //! of the body from 14 on, then the made types.
 //!
-//! A call takes at most 107,096 bytes of stack, as measured (docs/TABLES.md); the tables are on the heap.
+//! A call takes at most 103,048 bytes of stack, as measured (docs/TABLES.md); the tables are on the heap.
 #![deny(missing_docs)]
 #![deny(unsafe_code)]
 
