@@ -13,7 +13,7 @@ use borrow.Author.Tests.{ltb-false, ltb-true}
 use lib.Seq.{take-suc, take-length}
 use Rattle.std.proofs.lemmas.List.{append_assoc, length-set}
 use Rattle.output.specs.Output.{full, Written, Appends, Finishes, output, ended, zeros, digits_of, number_text}
-use Rattle.output.specs.Appending.{then, appends_as}
+use Rattle.output.specs.Appending.{then, appends_as, append_none}
 
 -- ── a byte ──
 
@@ -54,6 +54,31 @@ pub next_of : (s : List ℕ) (i : ℕ) {c d e : ℕ} {x y z : List ℕ} → i < 
 next_of s i lt p q = appends_as (sym (take-suc s i 0 lt) ∙ ap (λ k. take k s) (sym (add-one i))) (then p q)
 
 -- ── digits ──
+
+-- no digit
+pub no_digits : {k : ℕ} (n : ℕ) (c : ℕ) (x : List ℕ) → k ≡ 0 → Appends (digits_of k n) c x c x
+unfolding digits_of
+no_digits n c x e = subst (λ k. Appends (digits_of k n) c x c x) (sym e) (append_none c x)
+
+-- one digit
+pub one_digit : {k n b : ℕ} {c d : ℕ} {x y : List ℕ} → (k ≡ 0 → ⊥) → n < 10 → b ≡ 48 + n % 10 → Appends (b ∷ []) c x d y → Appends (digits_of k n) c x d y
+unfolding digits_of
+one_digit {k = zero} ne lt e p = absurd (ne refl)
+one_digit {k = suc k} {n = n} ne lt e p = appends_as (ap (λ a. a ∷ []) e ∙ by (ltb n 10) refl) p
+  where
+    by : (t : Bool) → ltb n 10 ≡ t → (48 + n % 10) ∷ [] ≡ cond t ((48 + n % 10) ∷ []) (digits_of k (n / 10) ++ ((48 + n % 10) ∷ []))
+    by true h = refl
+    by false h = absurd (omega (arith, lt, ltb-false n 10 h))
+
+-- a digit behind others
+pub more_digits : {k n b : ℕ} {c d e : ℕ} {x y z : List ℕ} → (k ≡ 0 → ⊥) → 10 ≤ n → b ≡ 48 + n % 10 → Appends (digits_of (k - 1) (n / 10)) c x d y → Appends (b ∷ []) d y e z → Appends (digits_of k n) c x e z
+unfolding digits_of
+more_digits {k = zero} ne ge e p q = absurd (ne refl)
+more_digits {k = suc k} {n = n} ne ge e p q = appends_as (ap (λ a. digits_of k (n / 10) ++ (a ∷ [])) e ∙ by (ltb n 10) refl) (then (appends_as (ap (λ j. digits_of j (n / 10)) (sub-one (suc k))) p) q)
+  where
+    by : (t : Bool) → ltb n 10 ≡ t → digits_of k (n / 10) ++ ((48 + n % 10) ∷ []) ≡ cond t ((48 + n % 10) ∷ []) (digits_of k (n / 10) ++ ((48 + n % 10) ∷ []))
+    by true h = absurd (omega (arith, ge, ltb-true n 10 h))
+    by false h = refl
 
 -- what a room ds of twenty digits holds behind its place a, and what of the number n is still to be written
 abbrev pub Digits : ℕ → ℕ → ℕ → List ℕ → Type 0
