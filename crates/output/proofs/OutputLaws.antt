@@ -9,7 +9,7 @@ use mathlib.Core.Bool.{Bool, true, false, cond}
 use Prim.Native.Nat.{ℕ, zero, suc, ◌+◌, ◌-◌, ◌/◌, ◌%◌, ◌≤◌, ◌<◌}
 use lib.ListN.{length, drop, take, set, get_or, replicate, length-append, length-drop}
 use lib.Dec.{ltb}
-use borrow.Author.Tests.{ltb-false, ltb-true}
+use borrow.Author.Tests.{lt-ltb, le-ltb, ltb-false, ltb-true}
 use lib.Seq.{take-suc, take-length}
 use Rattle.std.proofs.lemmas.List.{append_assoc, length-set}
 use Rattle.output.specs.Output.{full, Written, Appends, Finishes, output, ended, zeros, digits_of, number_text}
@@ -55,6 +55,16 @@ next_of s i lt p q = appends_as (sym (take-suc s i 0 lt) ∙ ap (λ k. take k s)
 
 -- ── digits ──
 
+-- a number below ten has one digit
+below_ten : (k n : ℕ) → n < 10 → digits_of (suc k) n ≡ (48 + n % 10) ∷ []
+unfolding digits_of
+below_ten k n lt = rw (lt-ltb n 10 lt) refl
+
+-- any other has its last digit behind those of its tenth
+from_ten : (k n : ℕ) → 10 ≤ n → digits_of (suc k) n ≡ digits_of k (n / 10) ++ ((48 + n % 10) ∷ [])
+unfolding digits_of
+from_ten k n ge = rw (le-ltb n 10 ge) refl
+
 -- no digit
 pub no_digits : {k : ℕ} (n : ℕ) (c : ℕ) (x : List ℕ) → k ≡ 0 → Appends (digits_of k n) c x c x
 unfolding digits_of
@@ -62,23 +72,13 @@ no_digits n c x e = subst (λ k. Appends (digits_of k n) c x c x) (sym e) (appen
 
 -- one digit
 pub one_digit : {k n b : ℕ} {c d : ℕ} {x y : List ℕ} → (k ≡ 0 → ⊥) → n < 10 → b ≡ 48 + n % 10 → Appends (b ∷ []) c x d y → Appends (digits_of k n) c x d y
-unfolding digits_of
 one_digit {k = zero} ne lt e p = absurd (ne refl)
-one_digit {k = suc k} {n = n} ne lt e p = appends_as (ap (λ a. a ∷ []) e ∙ by (ltb n 10) refl) p
-  where
-    by : (t : Bool) → ltb n 10 ≡ t → (48 + n % 10) ∷ [] ≡ cond t ((48 + n % 10) ∷ []) (digits_of k (n / 10) ++ ((48 + n % 10) ∷ []))
-    by true h = refl
-    by false h = absurd (omega (arith, lt, ltb-false n 10 h))
+one_digit {k = suc k} {n = n} ne lt e p = appends_as (ap (λ a. a ∷ []) e ∙ sym (below_ten k n lt)) p
 
 -- a digit behind others
 pub more_digits : {k n b : ℕ} {c d e : ℕ} {x y z : List ℕ} → (k ≡ 0 → ⊥) → 10 ≤ n → b ≡ 48 + n % 10 → Appends (digits_of (k - 1) (n / 10)) c x d y → Appends (b ∷ []) d y e z → Appends (digits_of k n) c x e z
-unfolding digits_of
 more_digits {k = zero} ne ge e p q = absurd (ne refl)
-more_digits {k = suc k} {n = n} ne ge e p q = appends_as (ap (λ a. digits_of k (n / 10) ++ (a ∷ [])) e ∙ by (ltb n 10) refl) (then (appends_as (ap (λ j. digits_of j (n / 10)) (sub-one (suc k))) p) q)
-  where
-    by : (t : Bool) → ltb n 10 ≡ t → digits_of k (n / 10) ++ ((48 + n % 10) ∷ []) ≡ cond t ((48 + n % 10) ∷ []) (digits_of k (n / 10) ++ ((48 + n % 10) ∷ []))
-    by true h = absurd (omega (arith, ge, ltb-true n 10 h))
-    by false h = refl
+more_digits {k = suc k} {n = n} ne ge e p q = appends_as (ap (λ a. digits_of k (n / 10) ++ (a ∷ [])) e ∙ sym (from_ten k n ge)) (then (appends_as (ap (λ j. digits_of j (n / 10)) (sub-one (suc k))) p) q)
 
 -- what a room ds of twenty digits holds behind its place a, and what of the number n is still to be written
 abbrev pub Digits : ℕ → ℕ → ℕ → List ℕ → Type 0
@@ -96,23 +96,13 @@ all_behind i l h = ap (λ k. take (k - i) (drop i l)) (sym h) ∙ ap (λ k. take
 
 -- the digit that is the first
 first_digit : (a r : ℕ) (w ds : List ℕ) → 0 < a → a ≤ length ds → r < 10 → w ≡ digits_of a r ++ drop a ds → drop (a - 1) (set ds (a - 1) (48 + r % 10)) ≡ w
-unfolding digits_of
 first_digit zero r w ds p h lt inv = absurd (omega (arith, p))
-first_digit (suc k) r w ds p h lt inv = rw (sub-one (suc k)) (set_at k (48 + r % 10) ds (omega (arith, h)) ∙ sym (inv ∙ by (ltb r 10) refl))
-  where
-    by : (t : Bool) → ltb r 10 ≡ t → cond t ((48 + r % 10) ∷ []) (digits_of k (r / 10) ++ ((48 + r % 10) ∷ [])) ++ drop (suc k) ds ≡ (48 + r % 10) ∷ drop (suc k) ds
-    by true q = refl
-    by false q = absurd (omega (arith, lt, ltb-false r 10 q))
+first_digit (suc k) r w ds p h lt inv = rw (sub-one (suc k)) (set_at k (48 + r % 10) ds (omega (arith, h)) ∙ sym (inv ∙ ap (λ l. l ++ drop (suc k) ds) (below_ten k r lt)))
 
 -- a digit with others before it
 next_digit : (a r : ℕ) (w ds : List ℕ) → 0 < a → a ≤ length ds → 10 ≤ r → w ≡ digits_of a r ++ drop a ds → w ≡ digits_of (a - 1) (r / 10) ++ drop (a - 1) (set ds (a - 1) (48 + r % 10))
-unfolding digits_of
 next_digit zero r w ds p h ge inv = absurd (omega (arith, p))
-next_digit (suc k) r w ds p h ge inv = rw (sub-one (suc k)) (inv ∙ by (ltb r 10) refl ∙ ap (λ l. digits_of k (r / 10) ++ l) (sym (set_at k (48 + r % 10) ds (omega (arith, h)))))
-  where
-    by : (t : Bool) → ltb r 10 ≡ t → cond t ((48 + r % 10) ∷ []) (digits_of k (r / 10) ++ ((48 + r % 10) ∷ [])) ++ drop (suc k) ds ≡ digits_of k (r / 10) ++ ((48 + r % 10) ∷ drop (suc k) ds)
-    by true q = absurd (omega (arith, ge, ltb-true r 10 q))
-    by false q = append_assoc (digits_of k (r / 10)) ((48 + r % 10) ∷ []) (drop (suc k) ds)
+next_digit (suc k) r w ds p h ge inv = rw (sub-one (suc k)) (inv ∙ ap (λ l. l ++ drop (suc k) ds) (from_ten k r ge) ∙ append_assoc (digits_of k (r / 10)) ((48 + r % 10) ∷ []) (drop (suc k) ds) ∙ ap (λ l. digits_of k (r / 10) ++ l) (sym (set_at k (48 + r % 10) ds (omega (arith, h)))))
 
 module _ (n a r : ℕ) (ds : List ℕ) (inv : Digits n a r ds) where
   -- the text is written from the first digit on
